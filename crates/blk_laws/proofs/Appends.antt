@@ -1,5 +1,7 @@
 -- What an append makes of a ring
-use Rattle.std.proofs.Common.{◌≡◌, ℕ, ◌+◌, ◌-◌, ◌%◌, ◌^◌, ◌<◌, ◌≤◌, ◌==◌, min, Bool, true, false, not, ◌&&◌, ◌||◌, if◌then◌else◌, nat_lt, List, [], ◌∷◌, ◌++◌, length, take, drop, refl, sym, ap, ◌∙◌, arith, length-take, length-drop, get_or, subst, append-nil, mod-lt}
+use Rattle.std.proofs.Common.{◌≡◌, ℕ, ◌+◌, ◌-◌, ◌%◌, ◌^◌, ◌<◌, ◌≤◌, ◌==◌, min, Bool, true, false, not, ◌&&◌, ◌||◌}
+use Rattle.std.proofs.Common.{if◌then◌else◌, nat_lt, List, [], ◌∷◌, ◌++◌, length, take, drop, refl, sym, ap, ◌∙◌, arith}
+use Rattle.std.proofs.Common.{length-take, length-drop, get_or, subst, append-nil, mod-lt}
 use Rattle.std.proofs.lemmas.List.{places, same_lists, drop_all}
 use Rattle.std.proofs.lemmas.Bool.{eqb-true}
 use Rattle.std.proofs.lemmas.Bool.Decides.{nat_tests}
@@ -10,12 +12,14 @@ use Rattle.blk_spec.specs.declared.BlkZone.{BlkZone}
 use Rattle.blk_spec.specs.declared.BlkWords.{BlkWords}
 use Rattle.blk_spec.specs.Layout.{capacity}
 use Rattle.blk_spec.specs.Writes.{Write, after_write, after_writes}
-use Rattle.blk_spec.specs.Rings.{header_bytes, header_write, run_writes, first_run, first_words, run_words, is_short, last_words, kept_writes, append_writes, words_after}
+use Rattle.blk_spec.specs.Rings.{header_bytes, header_write, run_writes, first_run, first_words, run_words, is_short}
+use Rattle.blk_spec.specs.Rings.{last_words, kept_writes, append_writes, words_after}
 use Rattle.blk_spec.specs.Reading.{zone_bytes, header_words, ring_log}
 use Rattle.blk_laws.specs.Standing.{LiesIn, StandsFor, header_with}
-use Rattle.blk_laws.proofs.Zones.{length-zone, length-write, words-written, header-zone, data-zone, header-stays, none-written}
+use Rattle.blk_laws.proofs.Zones.{length-zone, length-write, words-written, header-zone, data-zone, header-stays}
+use Rattle.blk_laws.proofs.Zones.{none-written}
 use Rattle.blk_laws.proofs.Rings.{once, twice, runs-AppendedBytes, length-written, turn-RingBytes, RingBytes-turn}
-use Rattle.blk_laws.proofs.Standing.{start-within, length-told}
+use Rattle.blk_laws.proofs.RingLists.{start-within, length-told}
 
 no-items : (xs : List ℕ) → (length xs == 0) ≡ true → xs ≡ []
 no-items [] e = refl

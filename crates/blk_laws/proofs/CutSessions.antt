@@ -1,5 +1,6 @@
 -- What a session lists of a ring whose append was cut
-use Rattle.std.proofs.Common.{◌≡◌, ℕ, ◌<◌, ◌≤◌, ◌==◌, true, false, if◌then◌else◌, List, [], ◌∷◌, ◌++◌, length, Option, Some, None, IfSome, refl, sym, ap, ◌∙◌, arith, subst}
+use Rattle.std.proofs.Common.{◌≡◌, ℕ, ◌<◌, ◌≤◌, ◌==◌, true, false, if◌then◌else◌, List, [], ◌∷◌, ◌++◌, length, Option}
+use Rattle.std.proofs.Common.{Some, None, IfSome, refl, sym, ap, ◌∙◌, arith, subst}
 use Rattle.std.proofs.lemmas.Bool.{and_parts}
 use Rattle.std.proofs.lemmas.Bool.Decides.{nat_tests}
 use Rattle.zone_spec.specs.Told.{last_items}
@@ -14,11 +15,15 @@ use Rattle.blk_spec.specs.Layout.{IsLayout, ring_zone, capacity}
 use Rattle.blk_spec.specs.Writes.{Write, after_writes, first_bytes, bytes_in, through, reaching, spent, limited}
 use Rattle.blk_spec.specs.Reading.{ring_saved}
 use Rattle.blk_spec.specs.States.{BlkState, ring_of, loaded, append_of, appended, dump_of, dumped, erase_of, erased}
-use Rattle.blk_spec.specs.Session.{Operation, Load, Append, AppendElsewhere, Dump, CutAfter, ListAll, Extract, Erase, Cause, Session, cause_for, cause_loaded, cause_of, called, done_loaded, unless_refused, session_after, Outcome, Done, Fails, NoMemory, Call, call_writes, failed_call, failed_in, ended, call_after, calls_run}
+use Rattle.blk_spec.specs.Session.{Operation, Load, Append, AppendElsewhere, Dump, CutAfter, ListAll, Extract, Erase}
+use Rattle.blk_spec.specs.Session.{Cause, Session, cause_for, cause_loaded, cause_of, called, done_loaded}
+use Rattle.blk_spec.specs.Session.{unless_refused, session_after, Outcome, Done, Fails, NoMemory, Call, call_writes}
+use Rattle.blk_spec.specs.Session.{failed_call, failed_in, ended, call_after, calls_run}
 use Rattle.blk_laws.specs.Standing.{StandsFor, listed}
-use Rattle.blk_laws.specs.Sessions.{Told, told_of, untold, told_run, none_dropped, is_whole, is_no_load, no_faults, no_loads, based, ring_read, ring_told, append_call, IsEarly}
+use Rattle.blk_laws.specs.Sessions.{ToldRings, told_of, untold, told_run, none_dropped, is_whole, is_no_load, no_faults}
+use Rattle.blk_laws.specs.Sessions.{no_loads, based, ring_read, ring_told, append_call, IsEarly}
 use Rattle.blk_laws.proofs.Zones.{after-none}
-use Rattle.blk_laws.proofs.Standing.{standing-listed, cut-append}
+use Rattle.blk_laws.proofs.RingLists.{standing-listed, cut-append}
 use Rattle.blk_laws.proofs.Listings.{ring-lies}
 use Rattle.blk_laws.proofs.Lines.{writes-longer}
 use Rattle.blk_laws.proofs.Sessions.{Keeps, Follows, Goes, calls-goes, based-goes}
@@ -164,7 +169,7 @@ append-failed l store b ring payload kept tried h =
     ap (λ (cause : Option Cause). unless_refused cause (failed_call store b (append_of b ring payload) kept tried)
     (record { store = store; blk = Some b })) (append-unrefused b ring payload h)
 
-pub follows-ring : (l : BlkLayout) (b : BlkState) (store : List ℕ) (t : Told) (ring : BlkRing) → Follows l b store t
+pub follows-ring : (l : BlkLayout) (b : BlkState) (store : List ℕ) (t : ToldRings) (ring : BlkRing) → Follows l b store t
     → Keeps (ring_zone l ring) (ring_of b ring) store (told_of t ring)
 follows-ring l b store t ConsoleRing f = f.console
 follows-ring l b store t PmsgRing f = f.pmsg
@@ -175,7 +180,7 @@ saved-ring l store ConsoleRing = refl
 saved-ring l store PmsgRing = refl
 
 -- the first bytes of an append that are data before its first header
-pub early-stands : (store : List ℕ) (b : BlkState) (t : Told) (ring : BlkRing) (payload : List ℕ) (k n : ℕ)
+pub early-stands : (store : List ℕ) (b : BlkState) (t : ToldRings) (ring : BlkRing) (payload : List ℕ) (k n : ℕ)
     → IsLayout b.layout → b.layout.total ≤ length store → Follows b.layout b store t → IsEarly b ring payload n → k ≤ n
     → StandsFor (ring_zone b.layout ring) (ring_of b ring).words
     (after_writes (first_bytes k (append_of b ring payload)) store)
@@ -187,7 +192,7 @@ early-stands store b t ring payload k n valid room f early few =
     (ring-lies b.layout ring store valid room some) ((follows-ring b.layout b store t ring f).standing some)
     early.not_full (omega (arith, few, early.data_alone))
 
-early-listed : (store : List ℕ) (b : BlkState) (t : Told) (ring : BlkRing) (payload : List ℕ) (k n : ℕ)
+early-listed : (store : List ℕ) (b : BlkState) (t : ToldRings) (ring : BlkRing) (payload : List ℕ) (k n : ℕ)
     → IsLayout b.layout → b.layout.total ≤ length store → Follows b.layout b store t → IsEarly b ring payload n → k ≤ n
     → ring_saved b.layout ring (after_writes (first_bytes k (append_of b ring payload)) store)
     ≡ listed (last_items (capacity (ring_zone b.layout ring)) (told_of t ring))
@@ -242,7 +247,7 @@ cut-ended l store b ring payload NoMemory limit some at e =
     let whole : none_dropped b.cut ≡ true = ap none_dropped at in cc
 
 -- a session that goes on as it was told, up to an append that is cut early
-pub cut-run : (l : BlkLayout) (store : List ℕ) (blk : Option BlkState) (t : Told) (b : BlkState) (ring : BlkRing)
+pub cut-run : (l : BlkLayout) (store : List ℕ) (blk : Option BlkState) (t : ToldRings) (b : BlkState) (ring : BlkRing)
     (payload : List ℕ) (outcome : Outcome) (limit : ℕ) (behind : List Call) → IsLayout l
     → Goes l (record { store = store; blk = blk }) t → blk ≡ Some b → b.cut ≡ After limit
     → IsEarly b ring payload limit
@@ -288,7 +293,7 @@ pub early-cut : (l : BlkLayout) (store : List ℕ) (before since behind : List C
 unfolding calls_run
 early-cut l store before since behind b ring payload outcome limit valid room none is at early cut unloaded =
     let s : Session = calls_run l (based l store before) since in
-    let t : Told = told_run l (based l store before) untold since in
+    let t : ToldRings = told_run l (based l store before) untold since in
     let g : Goes l s t = calls-goes l (based l store before) untold since valid none
     (based-goes l store before valid room) in
     ap (λ (x : Session). ring_read l x ring) (calls-append l (based l store before) since

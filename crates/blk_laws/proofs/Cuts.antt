@@ -1,5 +1,6 @@
 -- What reaches the store before and behind a cut
-use Rattle.std.proofs.Common.{◌≡◌, ℕ, ◌+◌, ◌-◌, ◌≤◌, min, Bool, true, false, if◌then◌else◌, nat_le, List, [], ◌∷◌, length, refl, ap, ◌∙◌, arith}
+use Rattle.std.proofs.Common.{◌≡◌, ℕ, ◌+◌, ◌-◌, ◌≤◌, min, Bool, true, false, if◌then◌else◌, nat_le, List, [], ◌∷◌}
+use Rattle.std.proofs.Common.{length, refl, ap, ◌∙◌, arith}
 use Rattle.std.proofs.lemmas.List.{take_all}
 use Rattle.std.proofs.lemmas.Bool.{leb-true}
 use Rattle.blk_spec.specs.declared.BlkZone.{BlkZone}
@@ -9,7 +10,7 @@ use Rattle.blk_spec.specs.Writes.{Write, after_writes, bytes_in, first_bytes, th
 use Rattle.blk_laws.specs.Apart.{AreWithin}
 use Rattle.blk_laws.specs.Sessions.{none_dropped}
 use Rattle.blk_laws.proofs.Zones.{after-none}
-use Rattle.blk_laws.proofs.Apart.{length-after, within-first}
+use Rattle.blk_laws.proofs.OwnZones.{length-after, within-first}
 
 pub first-all : (n : ℕ) (ws : List Write) → bytes_in ws ≤ n → first_bytes n ws ≡ ws
 unfolding first_bytes bytes_in

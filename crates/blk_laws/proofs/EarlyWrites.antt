@@ -1,5 +1,6 @@
 -- A fault within the first write of an append is early
-use Rattle.std.proofs.Common.{◌≡◌, ℕ, ◌-◌, ◌<◌, ◌≤◌, ◌==◌, min, Bool, true, false, if◌then◌else◌, List, [], ◌∷◌, ◌++◌, length, sym, ap, ◌∙◌, arith, length-take}
+use Rattle.std.proofs.Common.{◌≡◌, ℕ, ◌-◌, ◌<◌, ◌≤◌, ◌==◌, min, Bool, true, false, if◌then◌else◌, List, [], ◌∷◌, ◌++◌}
+use Rattle.std.proofs.Common.{length, sym, ap, ◌∙◌, arith, length-take}
 use Rattle.std.proofs.lemmas.Option.{same_Some}
 use Rattle.zone_spec.specs.Told.{last_items}
 use Rattle.blk_spec.specs.declared.BlkRing.{BlkRing}

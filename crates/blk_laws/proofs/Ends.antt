@@ -1,15 +1,20 @@
 -- What the calls answer and leave is what calls of a session leave
-use Rattle.std.proofs.Common.{◌≡◌, ℕ, ◌≤◌, Bool, true, false, if◌then◌else◌, List, Option, Some, None, IfSome, Result, Ok, Err, refl, sym, ap, ◌∙◌, arith, ◌⊎◌, inl, inr}
+use Rattle.std.proofs.Common.{◌≡◌, ℕ, ◌≤◌, Bool, true, false, if◌then◌else◌, List, Option, Some, None, IfSome, Result}
+use Rattle.std.proofs.Common.{Ok, Err, refl, sym, ap, ◌∙◌, arith, ◌⊎◌, inl, inr}
 use Rattle.std.proofs.lemmas.Option.{same_Some}
 use Rattle.blk_spec.specs.declared.BlkLayout.{BlkLayout}
 use Rattle.blk_spec.specs.declared.BlkCut.{BlkCut}
 use Rattle.blk_spec.specs.declared.BlkCut.TheVariants.{Uncut, After, Dropped}
 use Rattle.blk_spec.specs.declared.BlkFault.{BlkFault}
-use Rattle.blk_spec.specs.declared.BlkFault.TheVariants.{NoZone as NoZoneFault, NoRecord as NoRecordFault, StoreFault, Memory}
+use Rattle.blk_spec.specs.declared.BlkFault.TheVariants.{NoZone as NoZoneFault, NoRecord as NoRecordFault, StoreFault}
+use Rattle.blk_spec.specs.declared.BlkFault.TheVariants.{Memory}
 use Rattle.blk_spec.specs.Writes.{Write, after_writes, store_after, first_bytes, bytes_in, through, reaching, spent}
 use Rattle.blk_spec.specs.Answers.{Device, FailsWithin, Answers, IsUnwritten, Loads}
-use Rattle.blk_spec.specs.States.{BlkState, append_refusal, append_of, appended, dump_refusal, dump_of, dump_pieces_of, dumped, is_listed, erase_refusal, erase_of, erased, load_writes}
-use Rattle.blk_spec.specs.Session.{Operation, Load, Append, Dump, Erase, NoRecord, cause_for, cause_loaded, cause_of, called, done_loaded, session_after, Done, Fails, NoMemory, failed_call, failed_in, call_after}
+use Rattle.blk_spec.specs.States.{BlkState, append_refusal, append_of, appended, dump_refusal, dump_of, dump_pieces_of}
+use Rattle.blk_spec.specs.States.{dumped, is_listed, erase_refusal, erase_of, erased, load_writes}
+use Rattle.blk_spec.specs.Session.{Operation, Load, Append, Dump, Erase, NoRecord, cause_for, cause_loaded, cause_of}
+use Rattle.blk_spec.specs.Session.{called, done_loaded, session_after, Done, Fails, NoMemory, failed_call, failed_in}
+use Rattle.blk_spec.specs.Session.{call_after}
 use Rattle.blk_laws.specs.Ends.{Leaves, holding, held_after, AnswersAreCalls}
 use Rattle.blk_laws.proofs.Zones.{after-none}
 

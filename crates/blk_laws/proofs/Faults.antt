@@ -1,5 +1,6 @@
 -- What a session lists of its rings where the store failed without harm to them
-use Rattle.std.proofs.Common.{◌≡◌, ℕ, ◌+◌, ◌<◌, ◌≤◌, ◌==◌, Bool, true, false, if◌then◌else◌, List, [], ◌∷◌, length, Option, Some, None, refl, sym, arith, subst}
+use Rattle.std.proofs.Common.{◌≡◌, ℕ, ◌+◌, ◌<◌, ◌≤◌, ◌==◌, Bool, true, false, if◌then◌else◌, List, [], ◌∷◌, length}
+use Rattle.std.proofs.Common.{Option, Some, None, refl, sym, arith, subst}
 use Rattle.std.proofs.lemmas.Bool.Decides.{nat_tests}
 use Rattle.blk_spec.specs.declared.BlkLayout.{BlkLayout}
 use Rattle.blk_spec.specs.declared.BlkRing.{BlkRing}
@@ -16,15 +17,20 @@ use Rattle.blk_spec.specs.Writes.{Write, after_writes, first_bytes, through, spe
 use Rattle.blk_spec.specs.Rings.{empty_words}
 use Rattle.blk_spec.specs.Dumps.{counter_for}
 use Rattle.blk_spec.specs.States.{BlkState, ring_of, append_of, dump_refusal, dump_of, is_listed, erase_of}
-use Rattle.blk_spec.specs.Session.{Operation, Append, Dump, Erase, NoRecord, Session, cause_for, cause_of, unless_listed, unless_refused, Outcome, Done, Fails, NoMemory, Call, failed_call, ended, call_after, calls_run}
+use Rattle.blk_spec.specs.Session.{Operation, Append, Dump, Erase, NoRecord, Session, cause_for, cause_of}
+use Rattle.blk_spec.specs.Session.{unless_listed, unless_refused, Outcome, Done, Fails, NoMemory, Call, failed_call}
+use Rattle.blk_spec.specs.Session.{ended, call_after, calls_run}
 use Rattle.blk_laws.specs.Standing.{LiesIn}
 use Rattle.blk_laws.specs.Apart.{AreWithin}
-use Rattle.blk_laws.specs.Sessions.{Told, untold, told_by, unless_told, told_ending, told_call, told_run, none_dropped, is_whole, based, ring_read, ring_told, IsEarly, IsHarmless, AreHarmless}
-use Rattle.blk_laws.proofs.Apart.{append-within, dump-within, header-within, stays-cut}
+use Rattle.blk_laws.specs.Sessions.{ToldRings, untold, told_by, unless_told, told_ending, told_call, told_run}
+use Rattle.blk_laws.specs.Sessions.{none_dropped, is_whole, based, ring_read, ring_told, IsEarly, IsHarmless}
+use Rattle.blk_laws.specs.Sessions.{AreHarmless}
+use Rattle.blk_laws.proofs.OwnZones.{append-within, dump-within, header-within, stays-cut}
 use Rattle.blk_laws.proofs.Cuts.{whole-before}
 use Rattle.blk_laws.proofs.Listings.{ring-lies, dump-size, dump-room, listed-below}
 use Rattle.blk_laws.proofs.Lines.{writes-longer}
-use Rattle.blk_laws.proofs.Sessions.{Follows, Goes, keeps-same, follows-cut, console-apart, pmsg-apart, dump-apart, ended-goes, based-goes, lists-told}
+use Rattle.blk_laws.proofs.Sessions.{Follows, Goes, keeps-same, follows-cut, console-apart, pmsg-apart, dump-apart}
+use Rattle.blk_laws.proofs.Sessions.{ended-goes, based-goes, lists-told}
 use Rattle.blk_laws.proofs.CutSessions.{append-failed, follows-ring, early-stands}
 
 pub through-most : (c : BlkCut) (n : ℕ) → through c n ≤ n
@@ -32,7 +38,7 @@ through-most Uncut n = omega arith
 through-most (After limit) n = omega arith
 through-most Dropped n = omega arith
 
-module _ (store : List ℕ) (b : BlkState) (t : Told) (payload : List ℕ) (k n : ℕ) (valid : IsLayout b.layout)
+module _ (store : List ℕ) (b : BlkState) (t : ToldRings) (payload : List ℕ) (k n : ℕ) (valid : IsLayout b.layout)
     (room : b.layout.total ≤ length store) (f : Follows b.layout b store t) (few : k ≤ n) where
   within : (ring : BlkRing) → IsEarly b ring payload n
       → AreWithin (ring_zone b.layout ring) (append_of b ring payload)
@@ -75,7 +81,7 @@ module _ (store : List ℕ) (b : BlkState) (t : Told) (payload : List ℕ) (k n 
     dumps = f.dumps;
   }
 
-failed-goes : (store : List ℕ) (b : BlkState) (t : Told) (ring : BlkRing) (payload : List ℕ) (kept tried : ℕ)
+failed-goes : (store : List ℕ) (b : BlkState) (t : ToldRings) (ring : BlkRing) (payload : List ℕ) (kept tried : ℕ)
     → IsLayout b.layout → b.layout.total ≤ length store
     → (none_dropped b.cut ≡ true → Follows b.layout b store t) → IsEarly b ring payload kept
     → Goes b.layout (failed_call store b (append_of b ring payload) kept tried) t
@@ -93,7 +99,7 @@ failed-goes store b t ring payload kept tried valid room f early =
     }
 
 -- a call that writes within a dump zone, wherever it failed
-zone-failed : (store : List ℕ) (b : BlkState) (t : Told) (index : ℕ) (ws : List Write) (kept tried : ℕ)
+zone-failed : (store : List ℕ) (b : BlkState) (t : ToldRings) (index : ℕ) (ws : List Write) (kept tried : ℕ)
     → b.layout.total ≤ length store → (none_dropped b.cut ≡ true → Follows b.layout b store t)
     → (none_dropped b.cut ≡ true → (dump_zone b.layout index).at + (dump_zone b.layout index).size ≤ length store)
     → (none_dropped b.cut ≡ true → AreWithin (dump_zone b.layout index) ws)
@@ -120,7 +126,7 @@ zone-failed store b t index ws kept tried room f inside within =
       );
     }
 
-dump-goes : (store : List ℕ) (b : BlkState) (t : Told) (time : BlkTime) (packed : Bool) (reason : Reason)
+dump-goes : (store : List ℕ) (b : BlkState) (t : ToldRings) (time : BlkTime) (packed : Bool) (reason : Reason)
     (body : List ℕ) (kept tried : ℕ) → IsLayout b.layout → b.layout.total ≤ length store
     → (none_dropped b.cut ≡ true → Follows b.layout b store t)
     → Goes b.layout (unless_refused (cause_for (dump_refusal b))
@@ -139,7 +145,7 @@ dump-goes store b t time packed reason body kept tried valid room f = by-count (
         (λ h. dump-within (dump_zone b.layout b.cursor) time packed (counter_for reason b.counters) reason body
         (dump-size b.layout valid some))
 
-erase-goes : (store : List ℕ) (b : BlkState) (t : Told) (index : ℕ) (packed : Bool) (kept tried : ℕ)
+erase-goes : (store : List ℕ) (b : BlkState) (t : ToldRings) (index : ℕ) (packed : Bool) (kept tried : ℕ)
     → IsLayout b.layout → b.layout.total ≤ length store
     → (none_dropped b.cut ≡ true → Follows b.layout b store t)
     → Goes b.layout (unless_refused (unless_listed b (Some (DumpName index packed)))
@@ -159,7 +165,7 @@ erase-goes store b t index packed kept tried valid room f = by-listed (is_listed
         (λ h. header-within (dump_zone b.layout index) empty_words
         (let some : 52 ≤ b.layout.kmsg = dump-size b.layout valid (omega (arith, below h)) in omega arith))
 
-append-goes : (store : List ℕ) (b : BlkState) (t : Told) (ring : BlkRing) (payload : List ℕ) (kept tried : ℕ)
+append-goes : (store : List ℕ) (b : BlkState) (t : ToldRings) (ring : BlkRing) (payload : List ℕ) (kept tried : ℕ)
     → IsLayout b.layout → b.layout.total ≤ length store
     → (none_dropped b.cut ≡ true → Follows b.layout b store t) → IsEarly b ring payload kept
     → Goes b.layout (ended b.layout (record { store = store; blk = Some b }) (Append ring payload) (Fails kept tried)) t
@@ -169,7 +175,7 @@ append-goes store b t ring payload kept tried valid room f early =
     (failed-goes store b t ring payload kept tried valid room f early)
 
 -- a call within which the store failed without harm
-failing-goes : (store : List ℕ) (b : BlkState) (t : Told) (operation : Operation) (kept tried : ℕ)
+failing-goes : (store : List ℕ) (b : BlkState) (t : ToldRings) (operation : Operation) (kept tried : ℕ)
     → IsLayout b.layout → b.layout.total ≤ length store
     → (none_dropped b.cut ≡ true → Follows b.layout b store t) → IsHarmless (Fails kept tried) (Some b) operation
     → Goes b.layout (ended b.layout (record { store = store; blk = Some b }) operation (Fails kept tried)) t
@@ -182,7 +188,7 @@ failing-goes store b t (Erase (Some (DumpName index packed))) kept tried valid r
     erase-goes store b t index packed kept tried valid room f
 failing-goes store b t other kept tried valid room f h = absurd h
 
-unloaded-goes : (l : BlkLayout) (store : List ℕ) (t : Told) (operation : Operation) (kept tried : ℕ)
+unloaded-goes : (l : BlkLayout) (store : List ℕ) (t : ToldRings) (operation : Operation) (kept tried : ℕ)
     → IsHarmless (Fails kept tried) None operation → Goes l (record { store = store; blk = None }) t
     → Goes l (ended l (record { store = store; blk = None }) operation (Fails kept tried)) t
 unfolding cause_of
@@ -190,7 +196,7 @@ unloaded-goes l store t (Dump time packed reason body) kept tried h g = g
 unloaded-goes l store t (Erase (Some (DumpName index packed))) kept tried h g = g
 unloaded-goes l store t other kept tried h g = absurd h
 
-harmless-goes : (l : BlkLayout) (store : List ℕ) (blk : Option BlkState) (t : Told) (operation : Operation)
+harmless-goes : (l : BlkLayout) (store : List ℕ) (blk : Option BlkState) (t : ToldRings) (operation : Operation)
     (outcome : Outcome) → IsLayout l → IsHarmless outcome blk operation
     → Goes l (record { store = store; blk = blk }) t
     → Goes l (ended l (record { store = store; blk = blk }) operation outcome)
@@ -207,7 +213,7 @@ harmless-goes l store (Some b) t operation (Fails kept tried) valid h g =
     (subst (λ (m : BlkLayout). m.total ≤ length store) (sym same) g.room)
     (λ e. subst (λ (m : BlkLayout). Follows m b store t) (sym same) (g.state.1 e)) h)
 
-harmless-run : (l : BlkLayout) (s : Session) (t : Told) (calls : List Call) → IsLayout l → AreHarmless l s calls
+harmless-run : (l : BlkLayout) (s : Session) (t : ToldRings) (calls : List Call) → IsLayout l → AreHarmless l s calls
     → Goes l s t → Goes l (calls_run l s calls) (told_run l s t calls)
 unfolding calls_run told_run call_after AreHarmless
 harmless-run l s t [] valid h g = g

@@ -1,5 +1,6 @@
 -- Calls with any outcome keep a session's layout and the length of its store
-use Rattle.std.proofs.Common.{◌≡◌, ℕ, ◌+◌, ◌≤◌, List, [], ◌∷◌, ◌++◌, map, length, take, drop, Option, Some, None, IfSome, refl, ◌∙◌, arith, length-append, length-take, length-drop}
+use Rattle.std.proofs.Common.{◌≡◌, ℕ, ◌+◌, ◌≤◌, List, [], ◌∷◌, ◌++◌, map, length, take, drop, Option, Some, None}
+use Rattle.std.proofs.Common.{IfSome, refl, ◌∙◌, arith, length-append, length-take, length-drop}
 use Rattle.blk_spec.specs.declared.BlkLayout.{BlkLayout}
 use Rattle.blk_spec.specs.declared.BlkRing.{BlkRing}
 use Rattle.blk_spec.specs.declared.BlkRing.TheVariants.{Console as ConsoleRing, Pmsg as PmsgRing}
@@ -7,8 +8,11 @@ use Rattle.blk_spec.specs.declared.BlkName.{BlkName}
 use Rattle.blk_spec.specs.declared.BlkName.TheVariants.{Dump as DumpName, Console, Pmsg}
 use Rattle.blk_spec.specs.Writes.{Write, after_write, after_writes, first_bytes, through, reaching}
 use Rattle.blk_spec.specs.States.{BlkState, appended, erased, loaded, load_writes, append_of, dump_of, erase_of}
-use Rattle.blk_spec.specs.Session.{Operation, Load, Append, AppendElsewhere, Dump, CutAfter, ListAll, Extract, Erase, Cause, Session, cause_loaded, cause_of, done_loaded, done_in, unless_refused, session_after, session_run, begun, Outcome, Done, Fails, NoMemory, Call, done_call, call_writes, failed_in, ended, call_after, calls_run}
-use Rattle.blk_laws.proofs.Standing.{loading}
+use Rattle.blk_spec.specs.Session.{Operation, Load, Append, AppendElsewhere, Dump, CutAfter, ListAll, Extract, Erase}
+use Rattle.blk_spec.specs.Session.{Cause, Session, cause_loaded, cause_of, done_loaded, done_in, unless_refused}
+use Rattle.blk_spec.specs.Session.{session_after, session_run, begun, Outcome, Done, Fails, NoMemory, Call, done_call}
+use Rattle.blk_spec.specs.Session.{call_writes, failed_in, ended, call_after, calls_run}
+use Rattle.blk_laws.proofs.RingLists.{loading}
 
 -- ---- the layout of a session
 

@@ -1,5 +1,8 @@
 -- Listed records and the zones of a layout
-use Rattle.std.proofs.Common.{◌≡◌, ℕ, zero, suc, ◌+◌, ◌*◌, ◌%◌, ◌<◌, ◌≤◌, ◌==◌, inl, inr, Bool, true, false, not, ◌&&◌, if◌then◌else◌, bit_xor, List, [], ◌∷◌, ◌++◌, length, map, filter, flat_map, option_to_list, Option, Some, None, is_some, refl, sym, ap, ◌∙◌, arith, length-take, drop, ◌||◌}
+use Rattle.std.proofs.Common.{◌≡◌, ℕ, zero, suc, ◌+◌, ◌*◌, ◌%◌, ◌<◌, ◌≤◌, ◌==◌, inl, inr, Bool, true, false, not, ◌&&◌}
+use Rattle.std.proofs.Common.{if◌then◌else◌, bit_xor, List, [], ◌∷◌, ◌++◌, length, map, filter, flat_map}
+use Rattle.std.proofs.Common.{option_to_list, Option, Some, None, is_some, refl, sym, ap, ◌∙◌, arith, length-take, drop}
+use Rattle.std.proofs.Common.{◌||◌}
 use Rattle.std.specs.List.{list_any, range_with_len}
 use Rattle.std.proofs.lemmas.Bool.{and_parts, eqb-true, cases_lt}
 use Rattle.std.proofs.lemmas.Bool.Decides.{nat_tests}
@@ -14,7 +17,8 @@ use Rattle.blk_spec.specs.declared.BlkZone.{BlkZone}
 use Rattle.blk_spec.specs.declared.BlkName.{BlkName}
 use Rattle.blk_spec.specs.declared.BlkName.TheVariants.{Dump, Console, Pmsg}
 use Rattle.blk_spec.specs.Layout.{IsLayout, ring_zone, dump_zone}
-use Rattle.blk_spec.specs.Reading.{BlkDump, zone_bytes, saved_ring, ring_saved, header_words, is_valid, is_dump, dump_seen, listed_dump, dump_listed, dumps_listed}
+use Rattle.blk_spec.specs.Reading.{BlkDump, zone_bytes, saved_ring, ring_saved, header_words, is_valid, is_dump}
+use Rattle.blk_spec.specs.Reading.{dump_seen, listed_dump, dump_listed, dumps_listed}
 use Rattle.blk_spec.specs.Names.{is_name, dump_name}
 use Rattle.blk_spec.specs.States.{BlkState, name_if, names_of, is_listed}
 use Rattle.blk_laws.specs.Standing.{LiesIn}

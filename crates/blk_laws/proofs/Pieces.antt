@@ -1,9 +1,12 @@
 -- Bytes written in pieces, and at once
-use Rattle.std.proofs.Common.{◌≡◌, ℕ, zero, suc, ◌+◌, ◌-◌, ◌*◌, ◌/◌, ◌%◌, ◌<◌, ◌≤◌, ◌==◌, min, Bool, true, false, if◌then◌else◌, List, [], ◌∷◌, ◌++◌, length, take, drop, replicate, refl, sym, ap, ◌∙◌, arith, ◌⊎◌, inl, inr, append_assoc, length-append, length-take}
+use Rattle.std.proofs.Common.{◌≡◌, ℕ, zero, suc, ◌+◌, ◌-◌, ◌*◌, ◌/◌, ◌%◌, ◌<◌, ◌≤◌, ◌==◌, min, Bool, true, false}
+use Rattle.std.proofs.Common.{if◌then◌else◌, List, [], ◌∷◌, ◌++◌, length, take, drop, replicate, refl, sym, ap, ◌∙◌}
+use Rattle.std.proofs.Common.{arith, ◌⊎◌, inl, inr, append_assoc, length-append, length-take}
 use Rattle.std.proofs.Math.Nat.{div-eq-sub-div, div-eq_of_lt, mod-eq_of_lt, add-mod_left}
 use Rattle.std.proofs.lemmas.Nat.{div-add-mod'}
 use Rattle.std.proofs.lemmas.Bool.{cases_lt, eqb-true}
-use Rattle.std.proofs.lemmas.List.{take_all, take-append-le, append-nil, drop-drop, take_at, drop_at, replicate-append-replicate}
+use Rattle.std.proofs.lemmas.List.{take_all, take-append-le, append-nil, drop-drop, take_at, drop_at}
+use Rattle.std.proofs.lemmas.List.{replicate-append-replicate}
 use Rattle.list_laws.proofs.Elements.{take-append_past}
 use Rattle.kmsg_spec.specs.Reasons.{reason_number}
 use Rattle.blk_spec.specs.Writes.{Write, after_write, after_writes, first_bytes, bytes_in, in_pieces}

@@ -1,5 +1,7 @@
 -- What the rings of a session stand for
-use Rattle.std.proofs.Common.{◌≡◌, ℕ, ◌+◌, ◌-◌, ◌<◌, ◌≤◌, ◌==◌, inl, inr, Bool, true, false, if◌then◌else◌, List, [], ◌∷◌, ◌++◌, length, drop, Option, Some, None, IfSome, refl, sym, ap, ap₂, ◌∙◌, arith, subst, mod-lt, length-append, length-drop}
+use Rattle.std.proofs.Common.{◌≡◌, ℕ, ◌+◌, ◌-◌, ◌<◌, ◌≤◌, ◌==◌, inl, inr, Bool, true, false, if◌then◌else◌, List, []}
+use Rattle.std.proofs.Common.{◌∷◌, ◌++◌, length, drop, Option, Some, None, IfSome, refl, sym, ap, ap₂, ◌∙◌, arith}
+use Rattle.std.proofs.Common.{subst, mod-lt, length-append, length-drop}
 use Rattle.std.proofs.lemmas.Bool.{cases_lt, eqb-true, and_parts}
 use Rattle.std.proofs.lemmas.Bool.Decides.{nat_tests}
 use Rattle.std.proofs.lemmas.List.{drop-drop, drop-append-le}
@@ -21,17 +23,24 @@ use Rattle.blk_spec.specs.Writes.{Write, after_writes, bytes_in, reaching, spent
 use Rattle.blk_spec.specs.Rings.{header_write, empty_words, append_writes, words_after}
 use Rattle.blk_spec.specs.Dumps.{counter_for}
 use Rattle.blk_spec.specs.Reading.{zone_bytes, header_words, ring_log, ring_saved}
-use Rattle.blk_spec.specs.States.{BlkState, RingState, clearing, load_writes, loaded, append_of, appended, dump_of, dumped, is_listed, erase_of, erased, empty_ring}
-use Rattle.blk_spec.specs.Session.{Operation, Load, Append, AppendElsewhere, Dump, CutAfter, ListAll, Extract, Erase, Cause, NoRecord, Session, cause_for, cause_loaded, cause_of, unless_listed, called, load_session, done_loaded, unless_refused, session_after, begun, Outcome, Done, Fails, NoMemory, Call, ended, call_after, calls_run}
+use Rattle.blk_spec.specs.States.{BlkState, RingState, clearing, load_writes, loaded, append_of, appended, dump_of}
+use Rattle.blk_spec.specs.States.{dumped, is_listed, erase_of, erased, empty_ring}
+use Rattle.blk_spec.specs.Session.{Operation, Load, Append, AppendElsewhere, Dump, CutAfter, ListAll, Extract, Erase}
+use Rattle.blk_spec.specs.Session.{Cause, NoRecord, Session, cause_for, cause_loaded, cause_of, unless_listed, called}
+use Rattle.blk_spec.specs.Session.{load_session, done_loaded, unless_refused, session_after, begun, Outcome, Done}
+use Rattle.blk_spec.specs.Session.{Fails, NoMemory, Call, ended, call_after, calls_run}
 use Rattle.blk_laws.specs.Standing.{LiesIn, StandsFor, header_with, listed}
 use Rattle.blk_laws.specs.Apart.{AreWithin, AreApart}
-use Rattle.blk_laws.specs.Sessions.{Told, untold, telling, forgetting, told_by, unless_told, told_ending, told_call, told_run, none_dropped, is_whole, is_no_fault, no_faults, based, ring_read, ring_told}
-use Rattle.blk_laws.proofs.Standing.{standing-listed, erased as erased-stands}
+use Rattle.blk_laws.specs.Sessions.{ToldRings, untold, telling, forgetting, told_by, unless_told, told_ending}
+use Rattle.blk_laws.specs.Sessions.{told_call, told_run, none_dropped, is_whole, is_no_fault, no_faults, based}
+use Rattle.blk_laws.specs.Sessions.{ring_read, ring_told}
+use Rattle.blk_laws.proofs.RingLists.{standing-listed, erased as erased-stands}
 use Rattle.blk_laws.proofs.Appends.{after-append, append-stands}
-use Rattle.blk_laws.proofs.Apart.{stays, length-after, append-within, dump-within, header-within}
+use Rattle.blk_laws.proofs.OwnZones.{stays, length-after, append-within, dump-within, header-within}
 use Rattle.blk_laws.proofs.Lines.{HasLayout, calls-layout, calls-longer}
 use Rattle.blk_laws.proofs.Cuts.{whole-before, whole-limited, all-reached, length-reached}
-use Rattle.blk_laws.proofs.Listings.{ring-inside, ring-lies, dump-size, dump-room, no-ring, AllBelow, console-saved, pmsg-saved, listed-below, below-filter, dumps-below}
+use Rattle.blk_laws.proofs.Listings.{ring-inside, ring-lies, dump-size, dump-room, no-ring, AllBelow, console-saved}
+use Rattle.blk_laws.proofs.Listings.{pmsg-saved, listed-below, below-filter, dumps-below}
 
 -- ---- rings
 
@@ -94,22 +103,22 @@ keeps-none z ring store a b = record {
 -- ---- loaded stores
 
 -- what a state has where no byte was dropped since the loading
-pub record Follows (l : BlkLayout) (b : BlkState) (store : List ℕ) (t : Told) : Type 0 where
+pub record Follows (l : BlkLayout) (b : BlkState) (store : List ℕ) (t : ToldRings) : Type 0 where
   pub console : Keeps (ring_zone l ConsoleRing) b.console store t.console
   pub pmsg : Keeps (ring_zone l PmsgRing) b.pmsg store t.pmsg
   pub cursor : 0 < l.dumps → b.cursor < l.dumps
   pub dumps : AllBelow l.dumps b.dumps
 
-pub record Goes (l : BlkLayout) (s : Session) (t : Told) : Type 0 where
+pub record Goes (l : BlkLayout) (s : Session) (t : ToldRings) : Type 0 where
   pub room : l.total ≤ length s.store
   pub state : IfSome s.blk (λ (b : BlkState). (b.layout ≡ l) × (none_dropped b.cut ≡ true → Follows l b s.store t))
 
-pub follows-cut : (l : BlkLayout) (b : BlkState) (store : List ℕ) (t : Told) (c : BlkCut) → Follows l b store t
+pub follows-cut : (l : BlkLayout) (b : BlkState) (store : List ℕ) (t : ToldRings) (c : BlkCut) → Follows l b store t
     → Follows l (record b { cut = c }) store t
 follows-cut l b store t c f = record { console = f.console; pmsg = f.pmsg; cursor = f.cursor; dumps = f.dumps }
 
 -- a call that writes within one zone
-called-goes : (l : BlkLayout) (store : List ℕ) (b next : BlkState) (ws : List Write) (z : BlkZone) (t : Told)
+called-goes : (l : BlkLayout) (store : List ℕ) (b next : BlkState) (ws : List Write) (z : BlkZone) (t : ToldRings)
     → l.total ≤ length store → next.layout ≡ l
     → (none_dropped b.cut ≡ true → (z.at + z.size ≤ length store) × AreWithin z ws)
     → (none_dropped b.cut ≡ true → Follows l next (after_writes ws store) t)
@@ -191,7 +200,7 @@ load-goes l store valid room =
 
 -- ---- the calls on a loaded store
 
-module _ (store : List ℕ) (b : BlkState) (t : Told) (valid : IsLayout b.layout) (room : b.layout.total ≤ length store)
+module _ (store : List ℕ) (b : BlkState) (t : ToldRings) (valid : IsLayout b.layout) (room : b.layout.total ≤ length store)
     (f : none_dropped b.cut ≡ true → Follows b.layout b store t) where
   still : Goes b.layout (record { store = store; blk = Some b }) t
   still = record { room = room; state = (refl, f) }
@@ -415,7 +424,7 @@ module _ (store : List ℕ) (b : BlkState) (t : Told) (valid : IsLayout b.layout
 
 -- ---- the lines of a session
 
-line-goes : (l : BlkLayout) (store : List ℕ) (blk : Option BlkState) (t : Told) (operation : Operation) → IsLayout l
+line-goes : (l : BlkLayout) (store : List ℕ) (blk : Option BlkState) (t : ToldRings) (operation : Operation) → IsLayout l
     → Goes l (record { store = store; blk = blk }) t
     → Goes l (session_after l (record { store = store; blk = blk }) operation)
     (unless_told (cause_of blk operation) (told_by operation t) t)
@@ -436,7 +445,7 @@ line-goes l store (Some b) t operation valid g =
     (subst (λ (m : BlkLayout). m.total ≤ length store) (sym same) g.room)
     (λ e. subst (λ (m : BlkLayout). Follows m b store t) (sym same) (g.state.1 e)) operation)
 
-pub ended-goes : (l : BlkLayout) (s : Session) (t : Told) (operation : Operation) (outcome : Outcome) → IsLayout l
+pub ended-goes : (l : BlkLayout) (s : Session) (t : ToldRings) (operation : Operation) (outcome : Outcome) → IsLayout l
     → is_no_fault outcome ≡ true → Goes l s t
     → Goes l (ended l s operation outcome)
     (told_ending outcome (unless_told (cause_of s.blk operation) (told_by operation t) t) t)
@@ -445,7 +454,7 @@ ended-goes l s t operation (Fails kept tried) valid h g = cc
 ended-goes l s t operation NoMemory valid h g = g
 
 -- calls within which the store did not fail
-pub calls-goes : (l : BlkLayout) (s : Session) (t : Told) (calls : List Call) → IsLayout l → no_faults calls ≡ true
+pub calls-goes : (l : BlkLayout) (s : Session) (t : ToldRings) (calls : List Call) → IsLayout l → no_faults calls ≡ true
     → Goes l s t → Goes l (calls_run l s calls) (told_run l s t calls)
 unfolding calls_run told_run call_after
 calls-goes l s t [] valid h g = g
@@ -466,7 +475,7 @@ keeps-listed l r ring store told valid room k = elim (cases_lt 0 (ring_zone l r)
       no-ring l r store none ∙ sym (ap listed empty))
 ]
 
-pub lists-told : (l : BlkLayout) (s : Session) (t : Told) (ring : BlkRing) → IsLayout l → Goes l s t
+pub lists-told : (l : BlkLayout) (s : Session) (t : ToldRings) (ring : BlkRing) → IsLayout l → Goes l s t
     → is_whole s.blk ≡ true → ring_read l s ring ≡ ring_told l t ring
 lists-told l s t ring valid g e = by-blk s.blk ring g.state e
   where

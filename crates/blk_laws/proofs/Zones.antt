@@ -1,6 +1,8 @@
 -- What a write within a zone makes of the zone's header and data
-use Rattle.std.proofs.Common.{◌≡◌, ℕ, ◌+◌, ◌-◌, ◌<◌, ◌≤◌, List, [], ◌∷◌, ◌++◌, length, take, drop, slice_range, refl, sym, ap, ◌∙◌, ◌^◌, arith, length-append, length-take, length-drop}
-use Rattle.std.proofs.lemmas.List.{places, same_lists, take-take, take-append-le, append-nil, drop-take, take-append-drop}
+use Rattle.std.proofs.Common.{◌≡◌, ℕ, ◌+◌, ◌-◌, ◌<◌, ◌≤◌, List, [], ◌∷◌, ◌++◌, length, take, drop, slice_range, refl}
+use Rattle.std.proofs.Common.{sym, ap, ◌∙◌, ◌^◌, arith, length-append, length-take, length-drop}
+use Rattle.std.proofs.lemmas.List.{places, same_lists, take-take, take-append-le, append-nil, drop-take}
+use Rattle.std.proofs.lemmas.List.{take-append-drop}
 use Rattle.std.proofs.lemmas.Nat.{from_le_bytes-to_le_bytes_4}
 use Rattle.std.specs.Int.{from_le_bytes}
 use Rattle.std.proofs.Common.{w32}

@@ -5,12 +5,15 @@ use Rattle.blk_spec.specs.declared.BlkRing.{BlkRing}
 use Rattle.blk_spec.specs.declared.BlkTime.{BlkTime}
 use Rattle.blk_spec.specs.declared.BlkName.{BlkName}
 use Rattle.blk_spec.specs.declared.BlkFault.{BlkFault}
-use Rattle.blk_spec.specs.declared.BlkFault.TheVariants.{NoZone as NoZoneFault, NoRecord as NoRecordFault, StoreFault, Memory}
+use Rattle.blk_spec.specs.declared.BlkFault.TheVariants.{NoZone as NoZoneFault, NoRecord as NoRecordFault, StoreFault}
+use Rattle.blk_spec.specs.declared.BlkFault.TheVariants.{Memory}
 use Rattle.kmsg_spec.specs.declared.Reason.{Reason}
 use Rattle.blk_spec.specs.Layout.{ring_zone, capacity}
-use Rattle.blk_spec.specs.States.{BlkState, append_refusal, append_of, appended, dump_refusal, dump_of, dump_pieces_of, dumped, erase_refusal, erase_of, erased, ring_of}
+use Rattle.blk_spec.specs.States.{BlkState, append_refusal, append_of, appended, dump_refusal, dump_of, dump_pieces_of}
+use Rattle.blk_spec.specs.States.{dumped, erase_refusal, erase_of, erased, ring_of}
 use Rattle.blk_spec.specs.Answers.{Device, FailsWithin, Answers, Loads}
-use Rattle.blk_spec.specs.Session.{Session, Operation, Load, Append, Dump, Erase, Cause, NoZone, NoRecord, cause_of, Outcome, Done, Fails, NoMemory, call_after}
+use Rattle.blk_spec.specs.Session.{Session, Operation, Load, Append, Dump, Erase, Cause, NoZone, NoRecord, cause_of}
+use Rattle.blk_spec.specs.Session.{Outcome, Done, Fails, NoMemory, call_after}
 use Rattle.blk_laws.specs.Sessions.{append_call, IsHarmless}
 
 -- a call that answered so has this cause and this outcome

@@ -1,5 +1,6 @@
 -- What the rings of a session were told, and what a loading lists after any calls
-use Rattle.std.specs.Prelude.{◌≡◌, ℕ, ◌-◌, ◌<◌, ◌≤◌, min, Bool, true, false, List, [], ◌∷◌, ◌++◌, map, length, Option, Some, None}
+use Rattle.std.specs.Prelude.{◌≡◌, ℕ, ◌-◌, ◌<◌, ◌≤◌, min, Bool, true, false, List, [], ◌∷◌, ◌++◌, map, length, Option}
+use Rattle.std.specs.Prelude.{Some, None}
 use Rattle.std.specs.List.{list_all}
 use Rattle.zone_spec.specs.Told.{last_items}
 use Rattle.blk_spec.specs.declared.BlkLayout.{BlkLayout}
@@ -11,52 +12,53 @@ use Rattle.blk_spec.specs.declared.BlkCut.{BlkCut}
 use Rattle.blk_spec.specs.declared.BlkCut.TheVariants.{After, Dropped}
 use Rattle.blk_spec.specs.Layout.{IsLayout, ring_zone, capacity}
 use Rattle.blk_spec.specs.States.{BlkState, loaded, ring_of}
-use Rattle.blk_spec.specs.Session.{Operation, Load, Append, Dump, Erase, Cause, Session, cause_of, session_run, begun, Outcome, Done, Fails, NoMemory, Call, done_call, call_after, calls_run}
+use Rattle.blk_spec.specs.Session.{Operation, Load, Append, Dump, Erase, Cause, Session, cause_of, session_run, begun}
+use Rattle.blk_spec.specs.Session.{Outcome, Done, Fails, NoMemory, Call, done_call, call_after, calls_run}
 use Rattle.blk_laws.specs.Standing.{listed}
 
 -- all bytes that each ring was told since the last loading, or since its erasure where that came later
-pub record Told : Type 0 where
+pub record ToldRings : Type 0 where
   pub console : List ℕ
   pub pmsg : List ℕ
 
-abbrev pub told_of : Told → BlkRing → List ℕ
+abbrev pub told_of : ToldRings → BlkRing → List ℕ
 told_of t ConsoleRing = t.console
 told_of t PmsgRing = t.pmsg
 
-abbrev pub untold : Told
+abbrev pub untold : ToldRings
 untold = record { console = []; pmsg = [] }
 
-abbrev pub telling : Told → BlkRing → List ℕ → Told
+abbrev pub telling : ToldRings → BlkRing → List ℕ → ToldRings
 telling t ConsoleRing payload = record t { console = t.console ++ payload }
 telling t PmsgRing payload = record t { pmsg = t.pmsg ++ payload }
 
-abbrev pub forgetting : Told → BlkName → Told
+abbrev pub forgetting : ToldRings → BlkName → ToldRings
 forgetting t (DumpName index packed) = t
 forgetting t Console = record t { console = [] }
 forgetting t Pmsg = record t { pmsg = [] }
 
 -- what a line that is done tells the rings
-abbrev pub told_by : Operation → Told → Told
+abbrev pub told_by : Operation → ToldRings → ToldRings
 told_by Load t = untold
 told_by (Append ring payload) t = telling t ring payload
 told_by (Erase (Some name)) t = forgetting t name
 told_by other t = t
 
-abbrev pub unless_told : Option Cause → Told → Told → Told
+abbrev pub unless_told : Option Cause → ToldRings → ToldRings → ToldRings
 unless_told None next t = next
 unless_told (Some cause) next t = t
 
 -- a call that is refused, or that meets a fault, tells nothing
-abbrev pub told_ending : Outcome → Told → Told → Told
+abbrev pub told_ending : Outcome → ToldRings → ToldRings → ToldRings
 told_ending Done next t = next
 told_ending other next t = t
 
-abbrev pub told_call : Option BlkState → Call → Told → Told
+abbrev pub told_call : Option BlkState → Call → ToldRings → ToldRings
 told_call blk call t = told_ending call.outcome
     (unless_told (cause_of blk call.operation) (told_by call.operation t) t) t
 
 -- the calls in order
-unfoldable pub told_run : BlkLayout → Session → Told → List Call → Told
+unfoldable pub told_run : BlkLayout → Session → ToldRings → List Call → ToldRings
 told_run l s t [] = t
 told_run l s t (call ∷ calls) = told_run l (call_after l s call) (told_call s.blk call t) calls
 
@@ -96,7 +98,7 @@ abbrev pub ring_read : BlkLayout → Session → BlkRing → Option (List ℕ)
 ring_read l s ring = (ring_of (loaded l s.store) ring).saved
 
 -- a ring as it was told: its last bytes, as many as it holds
-abbrev pub ring_told : BlkLayout → Told → BlkRing → Option (List ℕ)
+abbrev pub ring_told : BlkLayout → ToldRings → BlkRing → Option (List ℕ)
 ring_told l t ring = listed (last_items (capacity (ring_zone l ring)) (told_of t ring))
 
 abbrev pub EveryLoadingListsReading : Type 0

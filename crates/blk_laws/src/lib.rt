@@ -2,8 +2,11 @@
 #![tactic(auto)]
 
 ghost use Rattle.blk_laws.specs.Rows.{FirstAppend, FullRingAppend, FirstDump, FirstRingRead};
-ghost use Rattle.blk_laws.specs.Laws.{LoadingListsReading, StandingRingIsListed, ErasedRingIsEmpty, AppendKeepsLastBytes, CutAppendListsBefore, CallsWriteWithin, OtherZonesStay, DumpPiecesAreOneWrite};
-ghost use Rattle.blk_laws.specs.Sessions.{EveryLoadingListsReading, WholeSessionListsTold, EarlyCutListsBefore, HarmlessFaultsListTold, SessionIsCalls};
+ghost use Rattle.blk_laws.specs.Laws.{LoadingListsReading, StandingRingIsListed, ErasedRingIsEmpty};
+ghost use Rattle.blk_laws.specs.Laws.{AppendKeepsLastBytes, CutAppendListsBefore, CallsWriteWithin, OtherZonesStay};
+ghost use Rattle.blk_laws.specs.Laws.{DumpPiecesAreOneWrite};
+ghost use Rattle.blk_laws.specs.Sessions.{EveryLoadingListsReading, WholeSessionListsTold, EarlyCutListsBefore};
+ghost use Rattle.blk_laws.specs.Sessions.{HarmlessFaultsListTold, SessionIsCalls};
 ghost use Rattle.blk_laws.specs.Ends.{AnswersAreCalls, FirstWriteFaultsAreHarmless};
 
 /// Every loading lists the reading of the store's bytes, whatever was done before it.

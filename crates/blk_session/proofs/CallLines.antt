@@ -1,5 +1,6 @@
 -- Lines of calls on a loaded store
-use Rattle.std.proofs.Common.{◌≡◌, ℕ, Bool, List, [], Option, Some, None, IfSome, Ok, Err, refl, sym, ap, ◌∙◌, arith, inl, inr}
+use Rattle.std.proofs.Common.{◌≡◌, ℕ, Bool, List, [], Option, Some, None, IfSome, Ok, Err, refl, sym, ap, ◌∙◌, arith}
+use Rattle.std.proofs.Common.{inl, inr}
 use Rattle.outside.specs.Outside.{Rose}
 use Rattle.zone_spec.specs.declared.ZoneName.{ZoneName}
 use Rattle.blk_spec.specs.declared.BlkLayout.{BlkLayout}
@@ -9,10 +10,12 @@ use Rattle.blk_spec.specs.declared.BlkTime.{BlkTime}
 use Rattle.kmsg_spec.specs.declared.Reason.{Reason}
 use Rattle.kmsg_spec.specs.Reasons.{reason_of}
 use Rattle.blk_spec.specs.declared.BlkFault.{BlkFault}
-use Rattle.blk_spec.specs.declared.BlkFault.TheVariants.{NoZone as NoZoneThere, NoRecord as NoRecordThere, StoreFault as StoreFaultThere, Memory as MemoryThere}
+use Rattle.blk_spec.specs.declared.BlkFault.TheVariants.{NoZone as NoZoneThere, NoRecord as NoRecordThere}
+use Rattle.blk_spec.specs.declared.BlkFault.TheVariants.{StoreFault as StoreFaultThere, Memory as MemoryThere}
 use Rattle.blk_spec.specs.Writes.{after_writes, store_after, bytes_in}
 use Rattle.blk_spec.specs.States.{BlkState, loaded, load_writes, cut_after}
-use Rattle.blk_spec.specs.Session.{Append, AppendElsewhere, Dump as DumpNow, Erase as EraseRecord, cause_of, session_after, load_session}
+use Rattle.blk_spec.specs.Session.{Append, AppendElsewhere, Dump as DumpNow, Erase as EraseRecord, cause_of}
+use Rattle.blk_spec.specs.Session.{session_after, load_session}
 use Rattle.blk_spec.specs.Answers.{Device, further, HasFront, Loads}
 use Rattle.grammar_spec.specs.declared.line.Line.TheVariants.{Write, Boot, Erase, KDump, CutAfter}
 use Rattle.script_spec.specs.BlkScripts.{blk_line_done, operation_of, append_to, ring_for, blk_named, line_writes}

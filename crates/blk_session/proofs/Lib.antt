@@ -2,7 +2,7 @@
 -- The crate's functions cite them.
 pub mod Writes
 pub mod Operations
-pub mod Named
+pub mod RecordNames
 pub mod CallLines
 pub mod OtherLines
 pub mod ScriptLines

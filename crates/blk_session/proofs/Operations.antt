@@ -1,5 +1,6 @@
 -- Calls on a loaded store as operations of the session, and these as lines
-use Rattle.std.proofs.Common.{◌≡◌, ◌≢◌, ℕ, ◌<◌, ◌==◌, Bool, true, false, if◌then◌else◌, List, [], Option, Some, None, Result, Ok, Err, refl, sym, ap, ◌∙◌, subst, arith, inr}
+use Rattle.std.proofs.Common.{◌≡◌, ◌≢◌, ℕ, ◌<◌, ◌==◌, Bool, true, false, if◌then◌else◌, List, [], Option, Some, None}
+use Rattle.std.proofs.Common.{Result, Ok, Err, refl, sym, ap, ◌∙◌, subst, arith, inr}
 use Rattle.std.specs.Prelude.{MatchResult}
 use Rattle.outside.specs.Outside.{Rose}
 use Rattle.blk_spec.specs.declared.BlkLayout.{BlkLayout}
@@ -9,20 +10,27 @@ use Rattle.blk_spec.specs.declared.BlkName.{BlkName}
 use Rattle.blk_spec.specs.declared.BlkCut.{BlkCut}
 use Rattle.kmsg_spec.specs.declared.Reason.{Reason}
 use Rattle.blk_spec.specs.declared.BlkFault.{BlkFault}
-use Rattle.blk_spec.specs.declared.BlkFault.TheVariants.{NoZone as NoZoneThere, NoRecord as NoRecordThere, StoreFault as StoreFaultThere, Memory as MemoryThere}
+use Rattle.blk_spec.specs.declared.BlkFault.TheVariants.{NoZone as NoZoneThere, NoRecord as NoRecordThere}
+use Rattle.blk_spec.specs.declared.BlkFault.TheVariants.{StoreFault as StoreFaultThere, Memory as MemoryThere}
 use Rattle.blk_spec.specs.Writes.{Write as StoreWrite, after_writes, store_after, bytes_in, reaching, spent}
 use Rattle.blk_spec.specs.Answers.{Device, FailsWithin, Answers}
 use Rattle.blk_spec.specs.Layout.{ring_zone, dump_zone}
 use Rattle.blk_spec.specs.Dumps.{counter_for}
-use Rattle.blk_spec.specs.States.{BlkState, append_refusal, append_of, appended, dump_refusal, dump_of, dump_pieces_of, dumped, is_listed, erase_refusal, erase_of, erased}
-use Rattle.blk_spec.specs.Session.{Session, Operation, Append, Dump as DumpNow, Erase as EraseRecord, NoRecord as NoRecordSession, cause_for, cause_loaded, cause_of, called, done_loaded, unless_refused, session_after}
+use Rattle.blk_spec.specs.States.{BlkState, append_refusal, append_of, appended, dump_refusal, dump_of, dump_pieces_of}
+use Rattle.blk_spec.specs.States.{dumped, is_listed, erase_refusal, erase_of, erased}
+use Rattle.blk_spec.specs.Session.{Session, Operation, Append, Dump as DumpNow, Erase as EraseRecord}
+use Rattle.blk_spec.specs.Session.{NoRecord as NoRecordSession, cause_for, cause_loaded, cause_of, called, done_loaded}
+use Rattle.blk_spec.specs.Session.{unless_refused, session_after}
 use Rattle.grammar_spec.specs.Fields.{Text}
 use Rattle.grammar_spec.specs.declared.line.Line.{Line}
-use Rattle.grammar_spec.specs.declared.line.Line.TheVariants.{Write, Boot, List as ListLine, Extract, Erase, KDump, CutAfter}
-use Rattle.script_spec.specs.BlkScripts.{blk_line_done, operation_of, performs, performs_if, done_unless, put_loaded, writes_loaded}
+use Rattle.grammar_spec.specs.declared.line.Line.TheVariants.{Write, Boot, List as ListLine, Extract, Erase, KDump}
+use Rattle.grammar_spec.specs.declared.line.Line.TheVariants.{CutAfter}
+use Rattle.script_spec.specs.BlkScripts.{blk_line_done, operation_of, performs, performs_if, done_unless, put_loaded}
+use Rattle.script_spec.specs.BlkScripts.{writes_loaded}
 use Rattle.blk_session.specs.declared.errors.LineError.{LineError}
 use Rattle.blk_session.specs.declared.errors.LineError.TheVariants.{Memory, StoreFault, Refused}
-use Rattle.blk_session.specs.Lines.{LineAsks, LineDone, LineFails, OperationAsks, OperationDone, OperationFaults, OperationFails, error_of}
+use Rattle.blk_session.specs.Lines.{LineAsks, LineDone, LineFails, OperationAsks, OperationDone, OperationFaults}
+use Rattle.blk_session.specs.Lines.{OperationFails, error_of}
 use Rattle.blk_session.proofs.Writes.{front-reached, some-reached, made-unasked}
 use Rattle.blk_laws.proofs.Pieces.{dump-pieces}
 

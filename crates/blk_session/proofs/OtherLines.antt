@@ -3,7 +3,8 @@ use Rattle.std.specs.Bool.{⊤}
 use Rattle.std.specs.Global.{Vec}
 use Rattle.std.specs.Prelude.{MatchResult, IsSome}
 use Rattle.std.specs.Option.{option_map}
-use Rattle.std.proofs.Common.{◌≡◌, ◌≢◌, ℕ, ◌<◌, ◌^◌, Bool, true, List, [], Option, Some, None, Result, Ok, Err, refl, sym, ap, ◌∙◌}
+use Rattle.std.proofs.Common.{◌≡◌, ◌≢◌, ℕ, ◌<◌, ◌^◌, Bool, true, List, [], Option, Some, None, Result, Ok, Err, refl}
+use Rattle.std.proofs.Common.{sym, ap, ◌∙◌}
 use Rattle.zone_spec.specs.declared.ZoneName.{ZoneName}
 use Rattle.blk_spec.specs.declared.BlkLayout.{BlkLayout}
 use Rattle.blk_spec.specs.declared.BlkName.{BlkName}
@@ -13,15 +14,19 @@ use Rattle.blk_spec.specs.States.{BlkState, is_listed}
 use Rattle.blk_spec.specs.Session.{Session, Extract as ExtractRecord, cause_of, session_after}
 use Rattle.grammar_spec.specs.Printed.{HasFields}
 use Rattle.grammar_spec.specs.declared.line.Line.{Line}
-use Rattle.grammar_spec.specs.declared.line.Line.TheVariants.{Blank, Write, Dump, BeginWrite, BeginErase, BeginDump, Step, Finish, Stop, Flip, Boot, BootPart, List as ListLine, Extract, Erase, KDump, CutAfter, KMsg, Crash, Reserve, StoreNext}
-use Rattle.script_spec.specs.BlkScripts.{blk_line_done, operation_of, performs, append_to, ring_for, blk_listing, blk_named, blk_extract_text}
+use Rattle.grammar_spec.specs.declared.line.Line.TheVariants.{Blank, Write, Dump, BeginWrite, BeginErase, BeginDump}
+use Rattle.grammar_spec.specs.declared.line.Line.TheVariants.{Step, Finish, Stop, Flip, Boot, BootPart}
+use Rattle.grammar_spec.specs.declared.line.Line.TheVariants.{List as ListLine, Extract, Erase, KDump, CutAfter, KMsg}
+use Rattle.grammar_spec.specs.declared.line.Line.TheVariants.{Crash, Reserve, StoreNext}
+use Rattle.script_spec.specs.BlkScripts.{blk_line_done, operation_of, performs, append_to, ring_for, blk_listing}
+use Rattle.script_spec.specs.BlkScripts.{blk_named, blk_extract_text}
 use Rattle.script_spec.specs.declared.Cause.{Cause}
 use Rattle.script_spec.specs.declared.Cause.TheVariants.{IsOff, NotHere, NoRecord}
 use Rattle.blk_session.specs.declared.errors.LineError.{LineError}
 use Rattle.blk_session.specs.declared.errors.LineError.TheVariants.{Memory, StoreFault, Refused}
 use Rattle.blk_session.specs.Lines.{LineAsks, LineDone, IsWanted, LineFails, IsExtract}
 use Rattle.blk_session.proofs.Operations.{as_operation, line_done, line_fails}
-use Rattle.blk_session.proofs.Named.{named_listed}
+use Rattle.blk_session.proofs.RecordNames.{named_listed}
 
 unasked : (layout : BlkLayout) (old : Option BlkState) (line : Line) (store : Device)
     → LineAsks layout old line store store

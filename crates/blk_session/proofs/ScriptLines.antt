@@ -1,5 +1,6 @@
 -- A script's lines, done one by one on the block store
-use Rattle.std.proofs.Common.{◌≡◌, ℕ, zero, suc, ◌+◌, ◌<◌, ◌≤◌, List, [], ◌∷◌, ◌++◌, length, take, get_or, slice_get, Option, Some, None, Result, Ok, Err, refl, sym, ap, ◌∙◌, arith, length-append}
+use Rattle.std.proofs.Common.{◌≡◌, ℕ, zero, suc, ◌+◌, ◌<◌, ◌≤◌, List, [], ◌∷◌, ◌++◌, length, take, get_or, slice_get}
+use Rattle.std.proofs.Common.{Option, Some, None, Result, Ok, Err, refl, sym, ap, ◌∙◌, arith, length-append}
 use Rattle.std.proofs.lemmas.List.Sums.{fold_more}
 use Rattle.std.proofs.lemmas.List.Folds.{fold_stuck}
 use Rattle.std.proofs.lemmas.Option.{slice_get_read}
@@ -14,14 +15,15 @@ use Rattle.grammar_spec.specs.Fields.{Text}
 use Rattle.grammar_spec.specs.declared.line.Line.{Line}
 use Rattle.blk_spec.specs.Writes.{bytes_in}
 use Rattle.blk_spec.specs.Answers.{Device, HasFront}
-use Rattle.script_spec.specs.BlkScripts.{BlkDone, BlkRan, blk_ran, blk_ran_on, blk_next_line, blk_started, blk_line_done, line_writes, WriteNothing}
+use Rattle.script_spec.specs.BlkScripts.{BlkDone, BlkRan, blk_ran, blk_ran_on, blk_next_line, blk_started}
+use Rattle.script_spec.specs.BlkScripts.{blk_line_done, line_writes, WriteNothing}
 use Rattle.script_spec.specs.Texts.{front, whole}
 use Rattle.script_spec.specs.BlkStops.{StopsAt, EndsAt}
 use Rattle.script_spec.specs.Playing.{LinesEnd, BlkPlayCaused}
 use Rattle.script_spec.specs.declared.Cause.{Cause}
 use Rattle.script_spec.specs.declared.LineStop.{LineStop}
 use Rattle.script_spec.specs.declared.LineStop.TheVariants.{Memory, StoreFault, SinkFault, Refused}
-use Rattle.tool_laws.proofs.Play.{Extends, extends_self, extends_on, front_of, whole_more}
+use Rattle.script_laws.proofs.Play.{Extends, extends_self, extends_on, front_of, whole_more}
 use Rattle.blk_session.specs.Playing.{Seen, Puts, LineStops}
 
 -- ---- texts only grow

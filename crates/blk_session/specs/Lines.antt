@@ -5,15 +5,18 @@ use Rattle.std.specs.Global.{Vec}
 use Rattle.outside.specs.Outside.{Rose}
 use Rattle.blk_spec.specs.declared.BlkLayout.{BlkLayout}
 use Rattle.blk_spec.specs.declared.BlkFault.{BlkFault}
-use Rattle.blk_spec.specs.declared.BlkFault.TheVariants.{NoZone as NoZoneThere, NoRecord as NoRecordThere, StoreFault as StoreFaultThere, Memory as MemoryThere}
+use Rattle.blk_spec.specs.declared.BlkFault.TheVariants.{NoZone as NoZoneThere, NoRecord as NoRecordThere}
+use Rattle.blk_spec.specs.declared.BlkFault.TheVariants.{StoreFault as StoreFaultThere, Memory as MemoryThere}
 use Rattle.blk_spec.specs.Writes.{bytes_in}
 use Rattle.blk_spec.specs.States.{BlkState}
 use Rattle.blk_spec.specs.Session.{Operation}
 use Rattle.blk_spec.specs.Answers.{Device, HasFront, IsUnwritten}
 use Rattle.grammar_spec.specs.Fields.{Text}
 use Rattle.grammar_spec.specs.declared.line.Line.{Line}
-use Rattle.grammar_spec.specs.declared.line.Line.TheVariants.{Write, Boot, List as ListLine, Extract, Erase, KDump, CutAfter}
-use Rattle.script_spec.specs.BlkScripts.{BlkDone, blk_line_done, line_writes, NeedsStore, TakesMemory, performs, writes_by, blk_named, blk_extract_text}
+use Rattle.grammar_spec.specs.declared.line.Line.TheVariants.{Write, Boot, List as ListLine, Extract, Erase, KDump}
+use Rattle.grammar_spec.specs.declared.line.Line.TheVariants.{CutAfter}
+use Rattle.script_spec.specs.BlkScripts.{BlkDone, blk_line_done, line_writes, NeedsStore, TakesMemory, performs}
+use Rattle.script_spec.specs.BlkScripts.{writes_by, blk_named, blk_extract_text}
 use Rattle.script_spec.specs.declared.Cause.{Cause}
 use Rattle.script_spec.specs.declared.Cause.TheVariants.{NoZone, NoRecord}
 use Rattle.blk_session.specs.declared.errors.LineError.{LineError}

@@ -9,7 +9,9 @@ use Rattle.grammar_spec.specs.Fields.{Text}
 use Rattle.grammar_spec.specs.declared.line.Line.{Line}
 use Rattle.script_spec.specs.declared.LineStop.{LineStop}
 use Rattle.script_spec.specs.declared.LineStop.TheVariants.{Memory, StoreFault, SinkFault, Refused}
-use Rattle.blk_session.specs.declared.errors.LineError.TheVariants.{Memory as MemoryThere, StoreFault as StoreFaultThere, Refused as RefusedThere}
+use Rattle.blk_session.specs.declared.errors.LineError.TheVariants.{Memory as MemoryThere}
+use Rattle.blk_session.specs.declared.errors.LineError.TheVariants.{StoreFault as StoreFaultThere}
+use Rattle.blk_session.specs.declared.errors.LineError.TheVariants.{Refused as RefusedThere}
 use Rattle.blk_session.specs.Lines.{LineDone, LineFails}
 
 -- the store and what the output was given at one moment, each as far as it is told, with the counts of faults

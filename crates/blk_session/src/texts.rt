@@ -1,7 +1,8 @@
 // The list of records, and the text of one.
 ghost use Rattle.std.specs.Prelude.{◌≡◌, ◌+◌, ◌++◌, codes, flat_map, length, Option, IfOk, OnOk};
 ghost use Rattle.blk_spec.specs.Names.{name_text as name_text_of};
-ghost use Rattle.script_spec.specs.BlkScripts.{blk_time_text, blk_listing, blk_extract_text, record_time as record_time_of, content_in as content_of_name};
+ghost use Rattle.script_spec.specs.BlkScripts.{blk_time_text, blk_listing, blk_extract_text};
+ghost use Rattle.script_spec.specs.BlkScripts.{record_time as record_time_of, content_in as content_of_name};
 ghost use Rattle.blk_session.specs.Texts.{entry_text};
 
 use arrayvec::ArrayString;

@@ -1,5 +1,6 @@
 -- The one write of a dump, and the counters that dumps carry (a project's own, after fs/pstore/zone.c)
-use Rattle.std.specs.Prelude.{ℕ, ◌+◌, ◌-◌, ◌/◌, ◌%◌, ◌^◌, ◌==◌, min, Bool, if◌then◌else◌, List, [], ◌∷◌, ◌++◌, length, take, replicate}
+use Rattle.std.specs.Prelude.{ℕ, ◌+◌, ◌-◌, ◌/◌, ◌%◌, ◌^◌, ◌==◌, min, Bool, if◌then◌else◌, List, [], ◌∷◌, ◌++◌, length}
+use Rattle.std.specs.Prelude.{take, replicate}
 use Rattle.std.specs.Int.{to_le_bytes}
 use Rattle.std.proofs.Common.{w32, w64}
 use Rattle.blk_spec.specs.declared.BlkZone.{BlkZone}

@@ -1,5 +1,6 @@
 -- The names of the block store's records, and their contents (a project's own)
-use Rattle.std.specs.Prelude.{◌≡◌, ℕ, ◌^◌, ◌<◌, Bool, true, false, not, ◌&&◌, if◌then◌else◌, ◌==◌, List, [], ◌∷◌, ◌++◌, codes, decimal, Option, Some, None}
+use Rattle.std.specs.Prelude.{◌≡◌, ℕ, ◌^◌, ◌<◌, Bool, true, false, not, ◌&&◌, if◌then◌else◌, ◌==◌, List, [], ◌∷◌, ◌++◌}
+use Rattle.std.specs.Prelude.{codes, decimal, Option, Some, None}
 use Rattle.blk_spec.specs.declared.BlkName.{BlkName}
 use Rattle.blk_spec.specs.declared.BlkName.TheVariants.{Dump, Console, Pmsg}
 use Rattle.blk_spec.specs.Reading.{BlkDump}

@@ -1,5 +1,6 @@
 -- What a loading reads of the store's bytes: the saved rings and the listed dumps (a project's own)
-use Rattle.std.specs.Prelude.{ℕ, ◌^◌, max, Bool, not, ◌&&◌, if◌then◌else◌, nat_lt, nat_le, ◌==◌, List, ◌++◌, take, drop, fold, flat_map, slice_range, slice_index, option_to_list, Option, Some, None}
+use Rattle.std.specs.Prelude.{ℕ, ◌^◌, max, Bool, not, ◌&&◌, if◌then◌else◌, nat_lt, nat_le, ◌==◌, List, ◌++◌, take, drop}
+use Rattle.std.specs.Prelude.{fold, flat_map, slice_range, slice_index, option_to_list, Option, Some, None}
 use Rattle.std.specs.List.{range_with_len}
 use Rattle.std.specs.Int.{from_le_bytes}
 use Rattle.std.proofs.Common.{w32, w64}

@@ -9,7 +9,8 @@ use Rattle.blk_spec.specs.declared.BlkFault.{BlkFault}
 use Rattle.blk_spec.specs.declared.BlkFault.TheVariants.{NoZone as NoZoneFault}
 use Rattle.kmsg_spec.specs.declared.Reason.{Reason}
 use Rattle.blk_spec.specs.Writes.{Write, after_writes, first_bytes, through, reaching, spent, bytes_in}
-use Rattle.blk_spec.specs.States.{BlkState, loaded, load_writes, append_refusal, append_of, appended, dump_refusal, dump_of, dumped, is_listed, erase_of, erased, cut_after}
+use Rattle.blk_spec.specs.States.{BlkState, loaded, load_writes, append_refusal, append_of, appended, dump_refusal}
+use Rattle.blk_spec.specs.States.{dump_of, dumped, is_listed, erase_of, erased, cut_after}
 
 -- a line of a session; a name is None where a text names no record
 pub data Operation : Type 0 where

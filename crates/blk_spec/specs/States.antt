@@ -1,5 +1,6 @@
 -- A loaded block store: what it knows between calls, what it lists, and what each call makes of it
-use Rattle.std.specs.Prelude.{ℕ, ◌+◌, ◌%◌, Bool, not, if◌then◌else◌, ◌==◌, List, [], ◌∷◌, ◌++◌, map, filter, Option, Some, None}
+use Rattle.std.specs.Prelude.{ℕ, ◌+◌, ◌%◌, Bool, not, if◌then◌else◌, ◌==◌, List, [], ◌∷◌, ◌++◌, map, filter, Option}
+use Rattle.std.specs.Prelude.{Some, None}
 use Rattle.std.specs.List.{find, list_any}
 use Rattle.std.specs.Option.{option_map}
 use Rattle.blk_spec.specs.declared.BlkLayout.{BlkLayout}

@@ -1,7 +1,7 @@
 use std::alloc::{AllocError, Global};
 use zone_blk::*;
 
-fn words_of(alloc: Global, line: &str) -> Result<Vec<String>, AllocError> {
+fn split_words(alloc: Global, line: &str) -> Result<Vec<String>, AllocError> {
     let mut words = Vec::new(alloc);
     for word in line.split(' ') {
         if !word.is_empty() {
@@ -13,7 +13,7 @@ fn words_of(alloc: Global, line: &str) -> Result<Vec<String>, AllocError> {
 
 // The number of the layout's fault, 0 for none, and 99 for words that are no parameters.
 fn layout_fault_of(alloc: Global, line: &str) -> Result<u32, AllocError> {
-    let words = words_of(alloc, line)?;
+    let words = split_words(alloc, line)?;
     Ok(match read_blk_words(&words) {
         Ok(p) => match blk_layout(&p) {
             Ok(_) => 0,
@@ -25,7 +25,7 @@ fn layout_fault_of(alloc: Global, line: &str) -> Result<u32, AllocError> {
 
 #[test]
 fn keys_have_their_defaults(rt: HostRuntime) {
-    let words = words_of(rt.alloc(), "console_size=0").expect(&rt, "there is memory");
+    let words = split_words(rt.alloc(), "console_size=0").expect(&rt, "there is memory");
     let p = read_blk_words(&words)
         .ok()
         .expect(&rt, "the words are parameters");
@@ -41,7 +41,7 @@ fn keys_have_their_defaults(rt: HostRuntime) {
 
 #[test]
 fn zones_lie_in_order(rt: HostRuntime) {
-    let words = words_of(
+    let words = split_words(
         rt.alloc(),
         "total_size=16384 kmsg_size=4096 console_size=4096 pmsg_size=4096",
     )

@@ -1,7 +1,8 @@
 -- the law of distance: power sums that vanish from 0 to r - 1 leave no mask on r spots
 use Rattle.std.proofs.Common.{◌≡◌, ℕ, zero, suc, ◌≤◌, ◌<◌, refl, sym, ap, ap₂, ◌∙◌, arith, List, [], ◌∷◌, length}
 use Rattle.code_spec.specs.Field.{gf_add, gf_mul, gf_pow}
-use Rattle.code_laws.proofs.Ring.{ring, sums, zero_add, add_zero, mul_add, mul_comm, zero_mul, mul_zero, mul_one, mul_below, add_below, equal_from_add, mul_cancel_zero, pow_suc, pow_zero}
+use Rattle.code_laws.proofs.Ring.{ring, sums, zero_add, add_zero, mul_add, mul_comm, zero_mul, mul_zero, mul_one}
+use Rattle.code_laws.proofs.Ring.{mul_below, add_below, equal_from_add, mul_cancel_zero, pow_suc, pow_zero}
 use Rattle.code_laws.specs.Locators.{Spot, power_sum, NotAmong, AreSpots, NoMask}
 
 -- each mask times the sum of its locator and X

@@ -1,5 +1,6 @@
 -- the laws of the field
-use Rattle.std.proofs.Common.{◌≡◌, ℕ, zero, suc, ◌+◌, ◌*◌, ◌/◌, ◌%◌, ◌^◌, ◌<◌, bit_xor, refl, sym, ap, ◌∙◌, ap₂, arith, Bool, true, ◌&&◌, eqb}
+use Rattle.std.proofs.Common.{◌≡◌, ℕ, zero, suc, ◌+◌, ◌*◌, ◌/◌, ◌%◌, ◌^◌, ◌<◌, bit_xor, refl, sym, ap, ◌∙◌, ap₂, arith}
+use Rattle.std.proofs.Common.{Bool, true, ◌&&◌, eqb}
 use Rattle.std.proofs.lemmas.Bool.Decides.{Decides-eqb, Decides-below_and}
 use Rattle.std.proofs.lemmas.Nat.{xor_mod}
 use Rattle.code_spec.specs.Field.{gf_mul, carryless, reduced}

@@ -1,11 +1,14 @@
 -- The word that passes a test, and the nearest codeword
-use Rattle.std.proofs.Common.{◌≡◌, ℕ, zero, suc, ◌+◌, ◌/◌, ◌<◌, ◌≤◌, Bool, true, false, cond, ◌&&◌, nat_le, ◌==◌, if◌then◌else◌, ◌⊎◌, List, [], ◌∷◌, ◌++◌, length, map, flat_map, find, refl, sym, ap, ◌∙◌, subst, arith, inl, inr, Option, Some, IsTrue, leb-true, le-leb, eq-or-lt_of_le, eq-eqb, ap₂}
+use Rattle.std.proofs.Common.{◌≡◌, ℕ, zero, suc, ◌+◌, ◌/◌, ◌<◌, ◌≤◌, Bool, true, false, cond, ◌&&◌, nat_le, ◌==◌}
+use Rattle.std.proofs.Common.{if◌then◌else◌, ◌⊎◌, List, [], ◌∷◌, ◌++◌, length, map, flat_map, find, refl, sym, ap, ◌∙◌}
+use Rattle.std.proofs.Common.{subst, arith, inl, inr, Option, Some, IsTrue, leb-true, le-leb, eq-or-lt_of_le, eq-eqb}
+use Rattle.std.proofs.Common.{ap₂}
 use Rattle.std.specs.List.{range_with_len, AllByRecursion}
 use Rattle.std.proofs.lemmas.Bool.Decides.{nat_tests}
 use Rattle.std.proofs.lemmas.Bool.{and_parts, cases_eq, ne_eqb}
 use Rattle.list_laws.proofs.Elements.{AllByRecursion-append}
 pub use Rattle.code_spec.specs.Code.{IsNear}
-use Rattle.code_spec.specs.Code.{IsWord, words_of, the_word, is_codeword, is_near, nearest, nearest_if, distance}
+use Rattle.code_spec.specs.Code.{IsWord, all_words, the_word, is_codeword, is_near, nearest, nearest_if, distance}
 
 -- w is one of xs
 pub Among : List ℕ → List (List ℕ) → Type 0
@@ -41,12 +44,12 @@ module _ (test : List ℕ → Bool) where
   ]
 
   -- every word of n bytes is among those of n bytes
-  Among-words : (n : ℕ) (w : List ℕ) → IsWord n w → Among w (words_of n)
-  unfolding words_of Among
+  Among-words : (n : ℕ) (w : List ℕ) → IsWord n w → Among w (all_words n)
+  unfolding all_words Among
   Among-words zero [] h = inl refl
   Among-words zero (b ∷ bs) h = absurd (omega (arith, h.0))
   Among-words (suc n) [] h = absurd (omega (arith, h.0))
-  Among-words (suc n) (b ∷ bs) h = Among-bytes b 256 0 bs (words_of n) (omega arith) (omega (arith, h.1.0))
+  Among-words (suc n) (b ∷ bs) h = Among-bytes b 256 0 bs (all_words n) (omega arith) (omega (arith, h.1.0))
       (Among-words n bs (omega (arith, h.0), h.1.1))
 
   -- all words of n bytes are such
@@ -61,10 +64,10 @@ module _ (test : List ℕ → Bool) where
   Words-bytes (suc k) a n xs l h = AllByRecursion-append (IsWord (suc n)) (map (λ x. a ∷ x) xs) _
       (Words-map a n xs (omega arith) h) (Words-bytes k (a + 1) n xs (omega arith) h)
 
-  Words-all : (n : ℕ) → AllByRecursion (IsWord n) (words_of n)
-  unfolding words_of
+  Words-all : (n : ℕ) → AllByRecursion (IsWord n) (all_words n)
+  unfolding all_words
   Words-all zero = ((refl, tt), tt)
-  Words-all (suc n) = Words-bytes 256 0 n (words_of n) (omega arith) (Words-all n)
+  Words-all (suc n) = Words-bytes 256 0 n (all_words n) (omega arith) (Words-all n)
 
   found_by : (n : ℕ) (x w : List ℕ) (rest : Option (List ℕ)) (b : Bool) → IsWord n x
       → (rest ≡ Some w → IsTrue (test w) × IsWord n w) → test x ≡ b → cond b (Some x) rest ≡ Some w
@@ -93,12 +96,12 @@ module _ (test : List ℕ → Bool) where
   -- what the search gives passes
   pub the_word-passes : (n : ℕ) (w : List ℕ) → the_word n test ≡ Some w → IsTrue (test w) × IsWord n w
   unfolding the_word
-  the_word-passes n w e = found n (words_of n) w (Words-all n) e
+  the_word-passes n w e = found n (all_words n) w (Words-all n) e
 
   -- where one passes, one is found
   pub the_word-finds : (n : ℕ) (w : List ℕ) → IsWord n w → IsTrue (test w) → (v : List ℕ) × (the_word n test ≡ Some v)
   unfolding the_word
-  the_word-finds n w h t = finds (words_of n) w (Among-words n w h) t
+  the_word-finds n w h t = finds (all_words n) w (Among-words n w h) t
 
 -- ---- the nearest codeword
 

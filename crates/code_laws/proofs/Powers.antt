@@ -1,11 +1,14 @@
 -- Powers of 2 in the field: 2 has order 255, and each byte but 0 has an inverse
-use Rattle.std.proofs.Common.{◌≡◌, ◌≢◌, ℕ, zero, suc, ◌+◌, ◌-◌, ◌*◌, ◌/◌, ◌%◌, ◌^◌, ◌<◌, ◌≤◌, refl, sym, ap, ◌∙◌, subst, arith, inl, inr, Bool, true, false, ◌&&◌, not, eqb, ltb, suc-add, zero-add, pow-suc, div-lt_iff_lt-mul, mod-lt, mul_comm, zero-mul, one-mul}
+use Rattle.std.proofs.Common.{◌≡◌, ◌≢◌, ℕ, zero, suc, ◌+◌, ◌-◌, ◌*◌, ◌/◌, ◌%◌, ◌^◌, ◌<◌, ◌≤◌, refl, sym, ap, ◌∙◌, subst}
+use Rattle.std.proofs.Common.{arith, inl, inr, Bool, true, false, ◌&&◌, not, eqb, ltb, suc-add, zero-add, pow-suc}
+use Rattle.std.proofs.Common.{div-lt_iff_lt-mul, mod-lt, mul_comm, zero-mul, one-mul}
 use Rattle.std.proofs.lemmas.Bool.Decides.{Decides-eqb, Decides-ltb}
 use Rattle.std.proofs.lemmas.Nat.{xor_lt, pow_pos, shr_split}
 use Rattle.std.proofs.lemmas.Bool.{and_parts}
 use Rattle.code_spec.specs.Field.{gf_mul, gf_pow}
 use Rattle.code_laws.proofs.Xor.{IsAdditive, additive_zero, top_bit, below_two}
-use Rattle.code_laws.proofs.Field.{mul_comm as gf_comm, mul_assoc as gf_assoc, mul_one, additive_l, additive_r, mul_low_l, mul_low_r, below, checked}
+use Rattle.code_laws.proofs.Field.{mul_comm as gf_comm, mul_assoc as gf_assoc, mul_one, additive_l, additive_r}
+use Rattle.code_laws.proofs.Field.{mul_low_l, mul_low_r, below, checked}
 
 additive_below : (f : ℕ → ℕ) → IsAdditive f → (k : ℕ) → ((i : ℕ) → i < k → f (2 ^ i) < 2 ^ 8) → (a : ℕ) → a < 2 ^ k
     → f a < 2 ^ 8

@@ -5,7 +5,8 @@ use Rattle.code_laws.specs.Laws.{IsField, TwoHasOrder255}
 use Rattle.code_laws.proofs.Powers.{order_least}
 use Rattle.code_spec.specs.Field.{gf_add, gf_mul}
 use Rattle.code_laws.proofs.Xor.{xor_comm, xor_assoc, xor_left_comm, xor_self, xor_cancel, xor_zero_r}
-use Rattle.code_laws.proofs.Field.{mul_comm as gf_comm, mul_assoc as gf_assoc, mul_add as gf_mul_add, add_mul as gf_add_mul}
+use Rattle.code_laws.proofs.Field.{mul_comm as gf_comm, mul_assoc as gf_assoc, mul_add as gf_mul_add}
+use Rattle.code_laws.proofs.Field.{add_mul as gf_add_mul}
 pub use Rattle.code_laws.proofs.Field.{mul_comm, mul_assoc}
 pub use Rattle.code_laws.proofs.Powers.{
   mul_zero,

@@ -1,5 +1,6 @@
 -- one step of the generator, and one of the division by it
-use Rattle.std.proofs.Common.{◌≡◌, ℕ, zero, suc, ◌+◌, ◌<◌, ◌≤◌, List, ◌++◌, ◌∷◌, [], length, get_or, refl, sym, ap, ap₂, ◌∙◌, arith, length-append, ◌⊎◌, inl, inr, add-one, zero-add, Bool, true, false, cond, eqb}
+use Rattle.std.proofs.Common.{◌≡◌, ℕ, zero, suc, ◌+◌, ◌<◌, ◌≤◌, List, ◌++◌, ◌∷◌, [], length, get_or, refl, sym, ap, ap₂}
+use Rattle.std.proofs.Common.{◌∙◌, arith, length-append, ◌⊎◌, inl, inr, add-one, zero-add, Bool, true, false, cond, eqb}
 use Rattle.std.proofs.lemmas.Bool.{cases_lt, eq-eqb}
 use Rattle.code_laws.proofs.Words.{law_of_distance}
 use Rattle.std.proofs.lemmas.List.{get_or_append_left, append_cancel_left}

@@ -1,5 +1,6 @@
 -- A word that went from another towards what the other stands for has the same nearest codeword
-use Rattle.std.proofs.Common.{◌≡◌, ℕ, suc, ◌<◌, ◌≤◌, ◌⊎◌, inl, inr, List, [], ◌∷◌, length, get_or, refl, sym, ap, ◌∙◌, subst, arith, Option, Some, None, ext_get_or, ◌==◌, if◌then◌else◌, eq-eqb}
+use Rattle.std.proofs.Common.{◌≡◌, ℕ, suc, ◌<◌, ◌≤◌, ◌⊎◌, inl, inr, List, [], ◌∷◌, length, get_or, refl, sym, ap, ◌∙◌}
+use Rattle.std.proofs.Common.{subst, arith, Option, Some, None, ext_get_or, ◌==◌, if◌then◌else◌, eq-eqb}
 use Rattle.code_spec.specs.Code.{IsWord, distance, nearest}
 pub use Rattle.code_laws.specs.Toward.{IsToward, StandsFor}
 use Rattle.code_laws.specs.Statements.{TowardTheNearest}

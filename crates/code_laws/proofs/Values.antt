@@ -1,6 +1,7 @@
 -- The values of a word as symbols come to its end, after a value that stands for what came before. For the loops of
 -- gf_poly: `values_on`, `rising_values_on`, `values_at`, `rising_values` and `syndromes`.
-use Rattle.std.proofs.Common.{◌≡◌, ℕ, ◌+◌, ◌<◌, List, [], ◌++◌, length, get_or, take, take_all, sym, ◌∙◌, ap, ap₂, arith, add-one}
+use Rattle.std.proofs.Common.{◌≡◌, ℕ, ◌+◌, ◌<◌, List, [], ◌++◌, length, get_or, take, take_all, sym, ◌∙◌, ap, ap₂}
+use Rattle.std.proofs.Common.{arith, add-one}
 use Rattle.std.proofs.lemmas.List.{take_more}
 use Rattle.code_spec.specs.Field.{gf_add, gf_mul, gf_pow}
 use Rattle.code_laws.proofs.Ring.{ring, pow_zero, pow_suc, mul_one, add_zero, zero_add, zero_mul}

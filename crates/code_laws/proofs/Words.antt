@@ -1,8 +1,12 @@
 -- Words of the code: sums, values and places of symbols
-use Rattle.std.proofs.Common.{◌≡◌, ◌≢◌, ℕ, zero, suc, ◌+◌, ◌*◌, ◌≤◌, ◌<◌, eqb, true, false, cond, refl, sym, ap, ap₂, ◌∙◌, arith, List, [], ◌∷◌, ◌++◌, length, length-append, ◌⊎◌, inl, inr, mul-suc, mul-zero, mul_comm as nat_mul_comm, get_or, take, drop, take-append-drop, ext_get_or, length-take-le, get_or-take, get_or-drop, length-drop}
+use Rattle.std.proofs.Common.{◌≡◌, ◌≢◌, ℕ, zero, suc, ◌+◌, ◌*◌, ◌≤◌, ◌<◌, eqb, true, false, cond, refl, sym, ap, ap₂}
+use Rattle.std.proofs.Common.{◌∙◌, arith, List, [], ◌∷◌, ◌++◌, length, length-append, ◌⊎◌, inl, inr, mul-suc, mul-zero}
+use Rattle.std.proofs.Common.{mul_comm as nat_mul_comm, get_or, take, drop, take-append-drop, ext_get_or}
+use Rattle.std.proofs.Common.{length-take-le, get_or-take, get_or-drop, length-drop}
 use Rattle.std.proofs.lemmas.Bool.Decides.{eqb_tells}
 use Rattle.code_spec.specs.Field.{gf_add, gf_mul, gf_pow}
-use Rattle.code_laws.proofs.Ring.{ring, add_assoc, add_self, zero_add, add_zero, zero_mul, mul_zero, mul_one, add_below, equal_from_add, pow_suc, pow_zero, pow_below, pow_add, pow_distinct}
+use Rattle.code_laws.proofs.Ring.{ring, add_assoc, add_self, zero_add, add_zero, zero_mul, mul_zero, mul_one, add_below}
+use Rattle.code_laws.proofs.Ring.{equal_from_add, pow_suc, pow_zero, pow_below, pow_add, pow_distinct}
 use Rattle.code_laws.specs.Locators.{Spot, power_sum, NotAmong, AreSpots, NoMask}
 use Rattle.code_spec.specs.Code.{value_of, distance}
 use Rattle.code_laws.proofs.Symbols.{HasRoots, IsAdded, Symbols}

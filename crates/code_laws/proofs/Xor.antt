@@ -1,5 +1,7 @@
 -- exclusive-or as a group, shifts and bits of it, and functions that keep it
-use Rattle.std.proofs.Common.{◌≡◌, ℕ, zero, suc, ◌+◌, ◌*◌, ◌/◌, ◌%◌, ◌^◌, ◌<◌, bit_xor, refl, sym, ap, ◌∙◌, ap₂, arith, inl, inr, ◌⊎◌, mul-zero, mul-one, add-zero, pow-suc, zero-mul, one-mul, div-lt_iff_lt-mul, mod-lt, mul_comm}
+use Rattle.std.proofs.Common.{◌≡◌, ℕ, zero, suc, ◌+◌, ◌*◌, ◌/◌, ◌%◌, ◌^◌, ◌<◌, bit_xor, refl, sym, ap, ◌∙◌, ap₂, arith}
+use Rattle.std.proofs.Common.{inl, inr, ◌⊎◌, mul-zero, mul-one, add-zero, pow-suc, zero-mul, one-mul, div-lt_iff_lt-mul}
+use Rattle.std.proofs.Common.{mod-lt, mul_comm}
 pub use lib.Bits.{xor_zero_l, xor_zero_r, xor_self, xor_assoc}
 pub use Rattle.std.proofs.lemmas.Nat.{xor_comm, xor_lt, xor_shr, xor_mod, xor_block, pow_pos, shr_split}
 use Rattle.std.proofs.lemmas.Nat.Bits.{bit_at_xor}

@@ -1,6 +1,7 @@
 -- The Reed-Solomon code whose generator has the roots 2^0 .. 2^(r-1). A word is a list of bytes, the
 -- highest power first
-use Rattle.std.specs.Prelude.{◌≡◌, ℕ, zero, suc, ◌+◌, ◌/◌, ◌<◌, ◌≤◌, Bool, true, false, ◌&&◌, if◌then◌else◌, nat_le, ◌==◌, IsTrue, List, [], ◌∷◌, ◌++◌, length, map, flat_map, find, Option, Some, unwrap_or}
+use Rattle.std.specs.Prelude.{◌≡◌, ℕ, zero, suc, ◌+◌, ◌/◌, ◌<◌, ◌≤◌, Bool, true, false, ◌&&◌, if◌then◌else◌, nat_le}
+use Rattle.std.specs.Prelude.{◌==◌, IsTrue, List, [], ◌∷◌, ◌++◌, length, map, flat_map, find, Option, Some, unwrap_or}
 use Rattle.std.specs.List.{range_with_len, AllByRecursion}
 use Rattle.code_spec.specs.Field.{gf_add, gf_mul, gf_pow}
 
@@ -28,14 +29,14 @@ abbrev pub IsWord : ℕ → List ℕ → Type 0
 IsWord n w = (length w ≡ n) × AllByRecursion (λ b. b < 256) w
 
 -- all words of n bytes
-unfoldable pub words_of : ℕ → List (List ℕ)
-words_of zero = [] ∷ []
-words_of (suc n) = flat_map (λ b. map (λ w. b ∷ w) (words_of n)) (range_with_len 0 256)
+unfoldable pub all_words : ℕ → List (List ℕ)
+all_words zero = [] ∷ []
+all_words (suc n) = flat_map (λ b. map (λ w. b ∷ w) (all_words n)) (range_with_len 0 256)
 
 -- the word of n bytes that passes the test, where there is one (where there are more, the first). Never
 -- computed
 unfoldable pub the_word : ℕ → (List ℕ → Bool) → Option (List ℕ)
-the_word n test = find test (words_of n)
+the_word n test = find test (all_words n)
 
 -- a codeword within half the parity of w
 unfoldable pub is_near : ℕ → List ℕ → List ℕ → Bool

@@ -8,7 +8,8 @@ use Rattle.script_spec.specs.Texts.{front, whole}
 use Rattle.command_spec.specs.Ends.{End, status_of, last_line}
 use Rattle.command_spec.specs.Commands.{RamPlan, Wanted, wanted, script_limit}
 use Rattle.command_spec.specs.declared.Stop.{Stop}
-use Rattle.command_spec.specs.declared.Stop.TheVariants.{Memory, Short, ScriptFault, ImageFault, SinkFault, TooLong, BadLine}
+use Rattle.command_spec.specs.declared.Stop.TheVariants.{Memory, Short, ScriptFault, ImageFault, SinkFault, TooLong}
+use Rattle.command_spec.specs.declared.Stop.TheVariants.{BadLine}
 
 -- ---- the outside
 

@@ -1,5 +1,6 @@
 -- What a script on the block store answers
-use Rattle.std.specs.Prelude.{◌≡◌, ◌≢◌, ◌⊎◌, ℕ, if◌then◌else◌, nat_lt, List, [], ◌++◌, length, take, Option, Some, Result, Ok, Err}
+use Rattle.std.specs.Prelude.{◌≡◌, ◌≢◌, ◌⊎◌, ℕ, if◌then◌else◌, nat_lt, List, [], ◌++◌, length, take, Option, Some}
+use Rattle.std.specs.Prelude.{Result, Ok, Err}
 use Rattle.std.specs.Io.KnownBytes.{Appends}
 use Rattle.blk_spec.specs.declared.BlkLayout.{BlkLayout}
 use Rattle.grammar_spec.specs.Fields.{Text}
@@ -11,7 +12,8 @@ use Rattle.command_spec.specs.Answers.{Outside, IfTold, NoScript, RoseFor, IsFre
 use Rattle.script_spec.specs.BlkScripts.{BlkRan, blk_ran}
 use Rattle.script_spec.specs.BlkStops.{StopsTaking, StopsWriting, StopsPutting, StopsRefused, AllDone}
 use Rattle.command_spec.specs.declared.Stop.{Stop}
-use Rattle.command_spec.specs.declared.Stop.TheVariants.{Memory, Short, ScriptFault, ImageFault, SinkFault, TooLong, BadLine, Refused}
+use Rattle.command_spec.specs.declared.Stop.TheVariants.{Memory, Short, ScriptFault, ImageFault, SinkFault, TooLong}
+use Rattle.command_spec.specs.declared.Stop.TheVariants.{BadLine, Refused}
 
 -- ---- the lines that are to be done
 

@@ -1,5 +1,6 @@
 -- The words that the tool takes, and what each command wants
-use Rattle.std.specs.Prelude.{ℕ, ◌+◌, Bool, true, false, ◌&&◌, if◌then◌else◌, nat_lt, List, [], ◌∷◌, length, take, drop, position, is_some, replicate, codes, bytes_eq, Option, Some, None, Result, Ok, Err}
+use Rattle.std.specs.Prelude.{ℕ, ◌+◌, Bool, true, false, ◌&&◌, if◌then◌else◌, nat_lt, List, [], ◌∷◌, length, take, drop}
+use Rattle.std.specs.Prelude.{position, is_some, replicate, codes, bytes_eq, Option, Some, None, Result, Ok, Err}
 use Rattle.zone_spec.specs.declared.Zone.{Zone}
 use Rattle.zone_spec.specs.declared.ZoneName.{ZoneName}
 use Rattle.zone_spec.specs.declared.params.Params.{Params}
@@ -9,7 +10,8 @@ use Rattle.zone_spec.specs.Records.{Saved, Listed}
 use Rattle.zone_spec.specs.Notices.{content}
 use Rattle.zone_spec.specs.Reading.{ZoneReading}
 use Rattle.salvage_spec.specs.declared.RingFault.{RingFault}
-use Rattle.salvage_spec.specs.declared.RingFault.TheVariants.{NoZone as RingNoZone, NoRing as RingNoRing, Memory as RingMemory}
+use Rattle.salvage_spec.specs.declared.RingFault.TheVariants.{NoZone as RingNoZone, NoRing as RingNoRing}
+use Rattle.salvage_spec.specs.declared.RingFault.TheVariants.{Memory as RingMemory}
 use Rattle.salvage_spec.specs.Rings.{rings, read_at}
 use Rattle.blk_spec.specs.declared.BlkParams.{BlkParams}
 use Rattle.blk_spec.specs.declared.BlkLayout.{BlkLayout}
@@ -37,7 +39,8 @@ use Rattle.command_spec.specs.Ends.{End}
 use Rattle.script_spec.specs.declared.Cause.{Cause}
 use Rattle.script_spec.specs.declared.Cause.TheVariants.{NoRecord, NoZone, NoRing}
 use Rattle.command_spec.specs.declared.Stop.{Stop}
-use Rattle.command_spec.specs.declared.Stop.TheVariants.{Memory, Usage, Param, Layout as LayoutStop, Short, TooLong, BadLine, Refused, NoSharedZone}
+use Rattle.command_spec.specs.declared.Stop.TheVariants.{Memory, Usage, Param, Layout as LayoutStop, Short, TooLong}
+use Rattle.command_spec.specs.declared.Stop.TheVariants.{BadLine, Refused, NoSharedZone}
 
 -- ---- words
 

@@ -4,7 +4,8 @@ use Rattle.blk_spec.specs.declared.BlkLayout.{BlkLayout}
 use Rattle.grammar_spec.specs.Fields.{Text}
 use Rattle.grammar_spec.specs.declared.line.Line.{Line}
 use Rattle.command_spec.specs.Ends.{End}
-use Rattle.command_spec.specs.Commands.{Class, RunsScript, MakesImage, ShowsText, class_of, Plan, OfRam, OfBlk, OfMove, wanted, wanted_move, plan_of}
+use Rattle.command_spec.specs.Commands.{Class, RunsScript, MakesImage, ShowsText, class_of, Plan, OfRam, OfBlk, OfMove}
+use Rattle.command_spec.specs.Commands.{wanted, wanted_move, plan_of}
 use Rattle.script_spec.specs.BlkScripts.{blk_ran}
 use Rattle.command_spec.specs.Answers.{Outside, RoseFor}
 use Rattle.command_spec.specs.BlkAnswers.{blk_lines, blk_end}

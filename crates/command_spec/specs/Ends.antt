@@ -6,12 +6,15 @@ use Rattle.grammar_spec.specs.declared.faults.ParamFault.TheVariants.{UnknownKey
 use Rattle.grammar_spec.specs.Fields.{Text}
 use Rattle.script_spec.specs.Texts.{newline}
 use Rattle.command_spec.specs.declared.Stop.{Stop}
-use Rattle.command_spec.specs.declared.Stop.TheVariants.{Memory, Usage, Param, Layout, NoSharedZone, Short, ScriptFault, ImageFault, SinkFault, TooLong, BadLine, Refused}
+use Rattle.command_spec.specs.declared.Stop.TheVariants.{Memory, Usage, Param, Layout, NoSharedZone, Short, ScriptFault}
+use Rattle.command_spec.specs.declared.Stop.TheVariants.{ImageFault, SinkFault, TooLong, BadLine, Refused}
 use Rattle.script_spec.specs.Playing.{LinesEnd}
 use Rattle.script_spec.specs.declared.LineStop.{LineStop}
-use Rattle.script_spec.specs.declared.LineStop.TheVariants.{Memory as MemoryThere, StoreFault as StoreFaultThere, SinkFault as SinkFaultThere, Refused as RefusedThere}
+use Rattle.script_spec.specs.declared.LineStop.TheVariants.{Memory as MemoryThere, StoreFault as StoreFaultThere}
+use Rattle.script_spec.specs.declared.LineStop.TheVariants.{SinkFault as SinkFaultThere, Refused as RefusedThere}
 use Rattle.script_spec.specs.declared.Cause.{Cause}
-use Rattle.script_spec.specs.declared.Cause.TheVariants.{IsOff, IsLive, NoZone, Busy, Idle, OutOfImage, NoRecord, NotHere, TooLong as TooLongLine, NoSeat, Crowded, NoRing}
+use Rattle.script_spec.specs.declared.Cause.TheVariants.{IsOff, IsLive, NoZone, Busy, Idle, OutOfImage, NoRecord}
+use Rattle.script_spec.specs.declared.Cause.TheVariants.{NotHere, TooLong as TooLongLine, NoSeat, Crowded, NoRing}
 
 -- the end of a run: all was done, or why not
 abbrev pub End : Type 0

@@ -1,10 +1,14 @@
 -- What run answers to any words
-use Rattle.std.specs.Prelude.{◌≡◌, ◌≢◌, ◌⊎◌, ⊤, ℕ, ◌==◌, Bool, true, false, if◌then◌else◌, List, [], ◌∷◌, Result, Ok, Err}
+use Rattle.std.specs.Prelude.{◌≡◌, ◌≢◌, ◌⊎◌, ⊤, ℕ, ◌==◌, Bool, true, false, if◌then◌else◌, List, [], ◌∷◌, Result, Ok}
+use Rattle.std.specs.Prelude.{Err}
 use Rattle.command_spec.specs.Ends.{last_line}
 use Rattle.std.specs.List.{list_any}
-use Rattle.command_spec.specs.Commands.{RamCommand, Extract, Erase, Rescue, Class, RunsScript, ReadsImage, ReadsDump, WritesImage, MakesImage, ShowsText, class_of, RamPlan, wanted_of_image, Plan, OfRam, OfBlk, OfMove, wanted_move, Wanted, wanted, mem_of}
+use Rattle.command_spec.specs.Commands.{RamCommand, Extract, Erase, Rescue, Class, RunsScript, ReadsImage, ReadsDump}
+use Rattle.command_spec.specs.Commands.{WritesImage, MakesImage, ShowsText, class_of, RamPlan, wanted_of_image, Plan}
+use Rattle.command_spec.specs.Commands.{OfRam, OfBlk, OfMove, wanted_move, Wanted, wanted, mem_of}
 use Rattle.outside.specs.Outside.{Rose}
-use Rattle.command_spec.specs.Answers.{Outside, RoseFor, FaultAnswers, OfScript, OfImage, OfReading, OfMaking, OfShowing, Answers, ScriptRead, SavedInPart}
+use Rattle.command_spec.specs.Answers.{Outside, RoseFor, FaultAnswers, OfScript, OfImage, OfReading, OfMaking}
+use Rattle.command_spec.specs.Answers.{OfShowing, Answers, ScriptRead, SavedInPart}
 use Rattle.command_spec.specs.BlkAnswers.{BlkAnswers}
 use Rattle.command_spec.specs.declared.Stop.{Stop}
 use Rattle.command_spec.specs.declared.Stop.TheVariants.{ImageFault}

@@ -1,5 +1,7 @@
 -- What calls in other zones leave of a zone
-use Rattle.std.proofs.Common.{◌≡◌, ◌≢◌, ℕ, ◌+◌, ◌-◌, ◌==◌, ◌≤◌, Bool, true, false, cond, ◌||◌, nat_lt, is_some, List, ◌∷◌, length, slice_get, Option, Some, None, Result, Ok, Err, refl, sym, ap, ◌∙◌, subst, arith, suc, true≢false}
+use Rattle.std.proofs.Common.{◌≡◌, ◌≢◌, ℕ, ◌+◌, ◌-◌, ◌==◌, ◌≤◌, Bool, true, false, cond, ◌||◌, nat_lt, is_some, List}
+use Rattle.std.proofs.Common.{◌∷◌, length, slice_get, Option, Some, None, Result, Ok, Err, refl, sym, ap, ◌∙◌, subst}
+use Rattle.std.proofs.Common.{arith, suc, true≢false}
 use Rattle.std.proofs.lemmas.Bool.Decides.{nat_tests}
 use Rattle.std.proofs.lemmas.List.Quantifiers.{position-Some}
 use Rattle.std.proofs.lemmas.Option.{get_or_from_slice_get}
@@ -15,7 +17,8 @@ use Rattle.zone_spec.specs.Layouts.{is_zone, zone_place}
 use Rattle.machine_spec.specs.States.{Flight, LiveZone, LiveState}
 use Rattle.machine_spec.specs.ZoneCalls.{begun, finished}
 use Rattle.machine_spec.specs.LiveZones.{Target, target, target_of, target_at, ring_only, with_zone, changed}
-use Rattle.machine_spec.specs.LiveCalls.{Ask, Append as AskAppend, Erase as AskErase, Dump as AskDump, asked_name, call_of, is_barred, begin, begins, make, goes_on, finish_at, and_finish}
+use Rattle.machine_spec.specs.LiveCalls.{Ask, Append as AskAppend, Erase as AskErase, Dump as AskDump, asked_name}
+use Rattle.machine_spec.specs.LiveCalls.{call_of, is_barred, begin, begins, make, goes_on, finish_at, and_finish}
 use Rattle.machine_laws.proofs.Targets.{IsAt, target-some, ring_only-is}
 use Rattle.crash_laws.specs.Standing.{IsToldLive}
 use Rattle.crash_laws.proofs.Items.{other_item, set_item}

@@ -1,5 +1,7 @@
 -- A boot that is cut makes no store in a zone that it would keep as it stands
-use Rattle.std.proofs.Common.{◌≡◌, ℕ, zero, suc, ◌+◌, ◌-◌, ◌*◌, ◌/◌, ◌<◌, Bool, true, false, cond, ◌&&◌, ◌||◌, nat_lt, nat_le, List, [], ◌∷◌, ◌++◌, length, take, flat_map, slice_get, get_or, Some, None, refl, sym, ap, ap₂, ◌∙◌, subst, arith, inl, inr, eq-eqb, true≢false}
+use Rattle.std.proofs.Common.{◌≡◌, ℕ, zero, suc, ◌+◌, ◌-◌, ◌*◌, ◌/◌, ◌<◌, Bool, true, false, cond, ◌&&◌, ◌||◌, nat_lt}
+use Rattle.std.proofs.Common.{nat_le, List, [], ◌∷◌, ◌++◌, length, take, flat_map, slice_get, get_or, Some, None, refl}
+use Rattle.std.proofs.Common.{sym, ap, ap₂, ◌∙◌, subst, arith, inl, inr, eq-eqb, true≢false}
 use Rattle.std.specs.List.{range_with_len}
 use Rattle.std.proofs.lemmas.Option.{slice_get-get_or, slice_get_within}
 use Rattle.zone_spec.specs.declared.Zone.{Zone}
@@ -14,7 +16,8 @@ use Rattle.zone_spec.specs.Stages.{Stage, stores_in_turn}
 use Rattle.zone_spec.specs.Calls.{erase_stages}
 use Rattle.zone_spec.specs.Reading.{zone_reading, blocks_below}
 use Rattle.zone_spec.specs.Ring.{IsRingForm, ReadsAsStands}
-use Rattle.zone_spec.specs.Boot.{fix_stores, part_fixes, blocks_read, boot_fixes, boot_erasure, boot_stores, signing, keeps}
+use Rattle.zone_spec.specs.Boot.{fix_stores, part_fixes, blocks_read, boot_fixes, boot_erasure, boot_stores, signing}
+use Rattle.zone_spec.specs.Boot.{keeps}
 use Rattle.machine_spec.specs.States.{OffZone}
 use Rattle.zone_spec.specs.Records.{is_of}
 use Rattle.zone_spec.specs.TimeLines.{has_line}

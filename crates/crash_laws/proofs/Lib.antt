@@ -3,8 +3,8 @@
 mod Items
 mod Calls
 mod Entries
-mod Told
+mod DumpOfCrash
 pub mod Stops
 mod CutBoots
-mod Keeping
+mod DumpZoneStays
 pub mod Scripts

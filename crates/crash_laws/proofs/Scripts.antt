@@ -1,5 +1,6 @@
 -- A crash in a script, and what a later boot lists of it
-use Rattle.std.proofs.Common.{◌≡◌, ℕ, zero, suc, true, false, List, [], ◌∷◌, ◌++◌, length, take, drop, slice_get, is_some, Contains, Option, Some, None, Result, Ok, Err, refl, sym, ap, ◌∙◌, subst, arith}
+use Rattle.std.proofs.Common.{◌≡◌, ℕ, zero, suc, true, false, List, [], ◌∷◌, ◌++◌, length, take, drop, slice_get}
+use Rattle.std.proofs.Common.{is_some, Contains, Option, Some, None, Result, Ok, Err, refl, sym, ap, ◌∙◌, subst, arith}
 use Rattle.std.specs.List.{fold}
 use Rattle.std.proofs.lemmas.Bool.{and_parts}
 use Rattle.std.proofs.lemmas.List.Sums.{fold-append}
@@ -27,10 +28,11 @@ use Rattle.dump_records.proofs.Lines.{read_back}
 use Rattle.grammar_spec.specs.declared.line.Line.{Line}
 use Rattle.grammar_spec.specs.declared.line.Line.TheVariants.{Boot, Crash, Stop}
 use Rattle.grammar_spec.specs.Printed.{HasFields, AllHaveFields, IsPayload}
-use Rattle.script_spec.specs.Scripts.{StoreDone, Kernel, new_kernel, Done, Ran, ran, ran_on, next_line, started, put_by, store_line, line_done, crash_body, dump_target}
+use Rattle.script_spec.specs.Scripts.{StoreDone, Kernel, new_kernel, Done, Ran, ran, ran_on, next_line, started, put_by}
+use Rattle.script_spec.specs.Scripts.{store_line, line_done, crash_body, dump_target}
 use Rattle.script_spec.specs.declared.Cause.{Cause}
-use Rattle.tool_laws.specs.Crashes.{CrashesAreToldWhole}
-use Rattle.tool_laws.proofs.Sound.{IsSound, fold_sound}
+use Rattle.script_laws.specs.Crashes.{CrashesAreToldWhole}
+use Rattle.script_laws.proofs.SoundStates.{IsSound, fold_sound}
 use Rattle.crash_laws.specs.Standing.{IsToldOff, IsTold}
 use Rattle.crash_laws.specs.Lines.{spares, AllSpare}
 use Rattle.crash_laws.specs.Listings.{crash_dump, crash_record, Lists, LaterBootListsCrash, NextBootListsCrash}
@@ -38,8 +40,8 @@ use Rattle.crash_laws.proofs.Items.{behind_of}
 use Rattle.crash_laws.proofs.Calls.{named}
 use Rattle.crash_laws.proofs.Entries.{IsFirst, dump_first}
 use Rattle.crash_laws.proofs.Stops.{boot_lists, boot_names}
-use Rattle.crash_laws.proofs.Told.{beside_done, operation_done, Crashed, crash_leaves}
-use Rattle.crash_laws.proofs.Keeping.{line_keeps}
+use Rattle.crash_laws.proofs.DumpOfCrash.{beside_done, operation_done, Crashed, crash_leaves}
+use Rattle.crash_laws.proofs.DumpZoneStays.{line_keeps}
 
 -- ---- fields of lines
 

@@ -1,5 +1,7 @@
 -- What a stop, a boot and the erasure of another record leave of a zone
-use Rattle.std.proofs.Common.{◌≡◌, ℕ, zero, suc, ◌+◌, ◌-◌, ◌==◌, Bool, true, false, cond, List, [], ◌∷◌, ◌++◌, length, take, drop, map, zip, flat_map, slice_get, slice_set, Contains, ◌||◌, nat_lt, nat_le, Option, Some, refl, sym, ap, ◌∙◌, subst, arith, append_assoc, true≢false, is_some}
+use Rattle.std.proofs.Common.{◌≡◌, ℕ, zero, suc, ◌+◌, ◌-◌, ◌==◌, Bool, true, false, cond, List, [], ◌∷◌, ◌++◌, length}
+use Rattle.std.proofs.Common.{take, drop, map, zip, flat_map, slice_get, slice_set, Contains, ◌||◌, nat_lt, nat_le}
+use Rattle.std.proofs.Common.{Option, Some, refl, sym, ap, ◌∙◌, subst, arith, append_assoc, true≢false, is_some}
 use Rattle.std.proofs.lemmas.Bool.Decides.{nat_tests}
 use Rattle.std.proofs.lemmas.List.Elements.{Contains-append_left}
 use Rattle.std.proofs.lemmas.List.Sums.{sum_by-cons}
@@ -16,7 +18,8 @@ use Rattle.zone_spec.specs.Reading.{ZoneReading, zone_reading}
 use Rattle.zone_spec.specs.TimeLines.{read_line, has_line}
 use Rattle.zone_spec.specs.Boot.{told_by_boot, keeps, keeps_in, is_kept}
 use Rattle.zone_spec.specs.Ring.{IsRingForm}
-use Rattle.zone_spec.specs.Records.{Saved, Listed, is_of, found, found_in, logs_of, dump_of, dumps_of, plain, ftrace_of, listed_of, record_of}
+use Rattle.zone_spec.specs.Records.{Saved, Listed, is_of, found, found_in, logs_of, dump_of, dumps_of, plain, ftrace_of}
+use Rattle.zone_spec.specs.Records.{listed_of, record_of}
 use Rattle.zone_spec.specs.Notices.{is_in}
 use Rattle.zone_spec.specs.Layouts.{IsLayout, zones_end}
 use Rattle.machine_spec.specs.States.{Flight, LiveZone, LiveState, OffState, Off, Live}

@@ -1,5 +1,6 @@
 -- Which lines of a script leave a dump zone alone
-use Rattle.std.specs.Prelude.{◌≡◌, ℕ, Bool, true, false, not, ◌+◌, ◌||◌, nat_lt, nat_le, List, ◌++◌, bytes_eq, take, slice_get, Some}
+use Rattle.std.specs.Prelude.{◌≡◌, ℕ, Bool, true, false, not, ◌+◌, ◌||◌, nat_lt, nat_le, List, ◌++◌, bytes_eq, take}
+use Rattle.std.specs.Prelude.{slice_get, Some}
 use Rattle.zone_spec.specs.declared.Zone.{Zone}
 use Rattle.zone_spec.specs.declared.Kind.TheVariants.{Dump as DumpKind}
 use Rattle.zone_spec.specs.declared.Name.TheVariants.{Dump as DumpName}
@@ -8,7 +9,8 @@ use Rattle.zone_spec.specs.Layouts.{is_zone}
 use Rattle.machine_spec.specs.States.{Session, Off, Live}
 use Rattle.grammar_spec.specs.Fields.{Text}
 use Rattle.grammar_spec.specs.declared.line.Line.{Line}
-use Rattle.grammar_spec.specs.declared.line.Line.TheVariants.{Write, Dump, BeginWrite, BeginErase, BeginDump, Flip, Erase, Crash}
+use Rattle.grammar_spec.specs.declared.line.Line.TheVariants.{Write, Dump, BeginWrite, BeginErase, BeginDump, Flip}
+use Rattle.grammar_spec.specs.declared.line.Line.TheVariants.{Erase, Crash}
 use Rattle.script_spec.specs.Scripts.{ran}
 
 -- whether the next dump goes to another zone; there is none while the machine is off

@@ -3,7 +3,7 @@
 
 ghost use Rattle.crash_laws.specs.Listings.{CrashTellsZone, LinesKeepTold, LaterBootListsCrash, NextBootListsCrash};
 
-use tool_laws::crashes_are_told_whole;
+use script_laws::crashes_are_told_whole;
 
 /// A crash that is done leaves its zone idle, and told its time line and its whole body.
 pub fn crash_tells_zone()

@@ -1,5 +1,7 @@
 -- What a zone reads whose erasure by a boot was cut
-use Rattle.std.proofs.Common.{◌≡◌, ◌≢◌, ℕ, zero, suc, ◌-◌, ◌*◌, ◌/◌, ◌%◌, ◌<◌, ◌≤◌, Bool, true, false, cond, ◌&&◌, ◌==◌, List, [], ◌∷◌, ◌++◌, length, take, map, flat_map, get_or, refl, sym, ap, ap₂, ◌∙◌, subst, arith, Option, Some, None, w32, append-nil, eqb-true}
+use Rattle.std.proofs.Common.{◌≡◌, ◌≢◌, ℕ, zero, suc, ◌-◌, ◌*◌, ◌/◌, ◌%◌, ◌<◌, ◌≤◌, Bool, true, false, cond, ◌&&◌, ◌==◌}
+use Rattle.std.proofs.Common.{List, [], ◌∷◌, ◌++◌, length, take, map, flat_map, get_or, refl, sym, ap, ap₂, ◌∙◌, subst}
+use Rattle.std.proofs.Common.{arith, Option, Some, None, w32, append-nil, eqb-true}
 use Rattle.std.specs.Prelude.{Contains}
 use Rattle.std.specs.Int.{to_le_bytes}
 use Rattle.std.specs.List.{AllByRecursion, range_with_len, position}
@@ -35,9 +37,10 @@ use Rattle.ring_laws.proofs.BootLaw.{booted_bytes, booted_image, booted_mended, 
 use Rattle.ring_laws.proofs.BootRing.{boot_image}
 use Rattle.damage_laws.proofs.Within.{part_reads, same_word, log_by}
 use Rattle.damage_laws.proofs.Erasures.{erases as erasure_is, corrected_words, erasure_words, erasure_parts}
-use Rattle.damage_laws.proofs.Untouched.{LeavesBlock, stages_leave, prefix_leaves}
-use Rattle.damage_laws.proofs.Touched.{parity_length}
-use Rattle.damage_laws.proofs.CutHeader.{IsSmall, IsUnsigning, IsHeader, words_track, pairs_have, sig_kept, sig_put, is_header, header_reads}
+use Rattle.damage_laws.proofs.UntouchedBlocks.{LeavesBlock, stages_leave, prefix_leaves}
+use Rattle.damage_laws.proofs.TouchedBlocks.{parity_length}
+use Rattle.damage_laws.proofs.CutHeader.{IsSmall, IsUnsigning, IsHeader, words_track, pairs_have, sig_kept, sig_put}
+use Rattle.damage_laws.proofs.CutHeader.{is_header, header_reads}
 
 -- the words that a seen pair says
 seen_pair : (z : Zone) (v : Words) (ps : List Pair) (j : ℕ) (d : Pair) → header_seen z v ps ≡ SeenPair j

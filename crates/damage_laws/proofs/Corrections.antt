@@ -1,5 +1,8 @@
 -- Wherever a boot stops within its corrections the zone reads as before, and as many corrections less
-use Rattle.std.proofs.Common.{◌≡◌, ◌≢◌, ℕ, zero, suc, ◌+◌, ◌-◌, ◌*◌, ◌/◌, ◌%◌, ◌<◌, ◌≤◌, Bool, true, false, cond, ◌==◌, if◌then◌else◌, List, [], ◌∷◌, ◌++◌, length, take, drop, map, flat_map, get_or, slice_get, set, refl, sym, ap, ap₂, ◌∙◌, subst, arith, inl, inr, Option, Some, None, length-take, length-drop, length-set, get_or-set_same, get_or-set_other, eq-eqb, get_or-take}
+use Rattle.std.proofs.Common.{◌≡◌, ◌≢◌, ℕ, zero, suc, ◌+◌, ◌-◌, ◌*◌, ◌/◌, ◌%◌, ◌<◌, ◌≤◌, Bool, true, false, cond, ◌==◌}
+use Rattle.std.proofs.Common.{if◌then◌else◌, List, [], ◌∷◌, ◌++◌, length, take, drop, map, flat_map, get_or, slice_get}
+use Rattle.std.proofs.Common.{set, refl, sym, ap, ap₂, ◌∙◌, subst, arith, inl, inr, Option, Some, None, length-take}
+use Rattle.std.proofs.Common.{length-drop, length-set, get_or-set_same, get_or-set_other, eq-eqb, get_or-take}
 use Rattle.std.specs.Prelude.{sum_by}
 use Rattle.std.proofs.lemmas.Bool.{cases_lt, cases_eq}
 use Rattle.std.proofs.lemmas.Bool.Decides.{nat_tests}
@@ -13,7 +16,8 @@ use Rattle.zone_spec.specs.declared.State.{State}
 use Rattle.zone_spec.specs.declared.State.TheVariants.{Unsigned, Empty, Invalid, Found}
 use Rattle.zone_spec.specs.Zones.{IsValidZone}
 use Rattle.code_spec.specs.Code.{nearest, distance, IsNear}
-use Rattle.zone_spec.specs.Parts.{Part, Header, Block, part_at, part_len, part_parity_at, part_bytes, part_word, words_in, IsImage}
+use Rattle.zone_spec.specs.Parts.{Part, Header, Block, part_at, part_len, part_parity_at, part_bytes, part_word}
+use Rattle.zone_spec.specs.Parts.{words_in, IsImage}
 use Rattle.zone_spec.specs.PartReadings.{part_reading, reading_by, words_read}
 use Rattle.zone_spec.specs.Reading.{ZoneReading, zone_reading, reading_in, state_of, byte_read, log_places}
 use Rattle.zone_spec.specs.Stores.{Store, put, after_stores}
@@ -23,9 +27,12 @@ use Rattle.damage_laws.specs.CutErasures.{CorrectionsKeepReading, after_boot_sto
 use Rattle.code_laws.proofs.Nearest.{nearest-IsNear}
 use Rattle.ring_laws.proofs.Images.{after_stores-append}
 use Rattle.ring_laws.proofs.PartsLaw.{block_some, SamePart, SamePart-places}
-use Rattle.ring_laws.proofs.PartWords.{part_word-IsWord, length-part_bytes, length-part_word, reading_near, reading_none}
-use Rattle.ring_laws.proofs.States.{reading_is, reading_state, reading_words, state_in_reading, words_in_reading, below_count, count_below}
-use Rattle.ring_laws.proofs.Fixes.{Fixes, IsFix, IsMended, fix_stores-all, one_part, below_parity, word_left, word_right, length-bytes_most, put_one, part_byte}
+use Rattle.ring_laws.proofs.PartWords.{part_word-IsWord, length-part_bytes, length-part_word, reading_near}
+use Rattle.ring_laws.proofs.PartWords.{reading_none}
+use Rattle.ring_laws.proofs.States.{reading_is, reading_state, reading_words, state_in_reading, words_in_reading}
+use Rattle.ring_laws.proofs.States.{below_count, count_below}
+use Rattle.ring_laws.proofs.Fixes.{Fixes, IsFix, IsMended, fix_stores-all, one_part, below_parity, word_left}
+use Rattle.ring_laws.proofs.Fixes.{word_right, length-bytes_most, put_one, part_byte}
 use Rattle.ring_laws.proofs.BootLaw.{IsRead, fixed_mended, fixed_image, length-word}
 
 -- ---- a list of stores at rising places, each changing its byte

@@ -1,5 +1,8 @@
 -- What the header of a zone reads whose call, or boot's erasure, was cut
-use Rattle.std.proofs.Common.{◌≡◌, ℕ, zero, suc, ◌+◌, ◌-◌, ◌%◌, ◌^◌, ◌<◌, ◌≤◌, min, Bool, true, false, cond, ◌==◌, nat_le, List, [], ◌∷◌, ◌++◌, length, take, drop, flat_map, get_or, slice_range, refl, sym, ap, ◌∙◌, subst, arith, inl, inr, Option, Some, None, w32, length-append, mod-lt, take_all, le-leb}
+use Rattle.std.proofs.Common.{◌≡◌, ℕ, zero, suc, ◌+◌, ◌-◌, ◌%◌, ◌^◌, ◌<◌, ◌≤◌, min, Bool, true, false, cond, ◌==◌}
+use Rattle.std.proofs.Common.{nat_le, List, [], ◌∷◌, ◌++◌, length, take, drop, flat_map, get_or, slice_range, refl, sym}
+use Rattle.std.proofs.Common.{ap, ◌∙◌, subst, arith, inl, inr, Option, Some, None, w32, length-append, mod-lt, take_all}
+use Rattle.std.proofs.Common.{le-leb}
 use Rattle.std.specs.Prelude.{Contains, sum_by, MatchOption}
 use Rattle.std.specs.Int.{from_le_bytes, to_le_bytes}
 use Rattle.std.proofs.lemmas.Nat.{from_le_bytes-to_le_bytes_4}
@@ -14,11 +17,13 @@ use Rattle.zone_spec.specs.declared.Words.{Words}
 use Rattle.zone_spec.specs.declared.Pair.{Pair}
 use Rattle.zone_spec.specs.Zones.{IsValidZone}
 use Rattle.code_spec.specs.Code.{IsWord, IsCodeword, nearest, parity_of, IsNear}
-use Rattle.zone_spec.specs.Parts.{AreBytes, Part, Header, Block, part_parity_at, part_bytes, part_word, words_in, standing_words, IsImage}
+use Rattle.zone_spec.specs.Parts.{AreBytes, Part, Header, Block, part_parity_at, part_bytes, part_word, words_in}
+use Rattle.zone_spec.specs.Parts.{standing_words, IsImage}
 use Rattle.zone_spec.specs.PartReadings.{words_read}
 use Rattle.zone_spec.specs.Told.{Call, Append, Erase, Dump, last_items}
 use Rattle.zone_spec.specs.Stores.{Store, put, after_stores, byte_stores}
-use Rattle.zone_spec.specs.Stages.{Stage, SigWord, StartWord, SizeWord, Run, ParityOf, stage_stores, stores_in_turn, stage_count, blocks_met}
+use Rattle.zone_spec.specs.Stages.{Stage, SigWord, StartWord, SizeWord, Run, ParityOf, stage_stores, stores_in_turn}
+use Rattle.zone_spec.specs.Stages.{stage_count, blocks_met}
 use Rattle.zone_spec.specs.Calls.{run_stages, append_stages, erase_stages, call_parts, call_stages, call_stores}
 use Rattle.zone_spec.specs.Ring.{ReadsAsStands}
 use Rattle.zone_spec.specs.Damage.{IsNotDamagedFurther}

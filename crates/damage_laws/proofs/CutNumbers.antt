@@ -1,5 +1,7 @@
 -- The numbers that a boot reports of a cut
-use Rattle.std.proofs.Common.{◌≡◌, ◌≢◌, ℕ, zero, suc, ◌+◌, ◌<◌, ◌≤◌, ◌⊎◌, Bool, true, false, cond, ◌==◌, List, [], ◌∷◌, ◌++◌, length, filter, flat_map, get_or, refl, sym, ap, ◌∙◌, subst, arith, inl, inr, length-append, append-nil, true≢false, eq-eqb, eqb-true}
+use Rattle.std.proofs.Common.{◌≡◌, ◌≢◌, ℕ, zero, suc, ◌+◌, ◌<◌, ◌≤◌, ◌⊎◌, Bool, true, false, cond, ◌==◌, List, [], ◌∷◌}
+use Rattle.std.proofs.Common.{◌++◌, length, filter, flat_map, get_or, refl, sym, ap, ◌∙◌, subst, arith, inl, inr}
+use Rattle.std.proofs.Common.{length-append, append-nil, true≢false, eq-eqb, eqb-true}
 use Rattle.std.specs.Prelude.{Contains, sum_by}
 use Rattle.std.proofs.lemmas.Bool.{cases_eq, or_right}
 use Rattle.std.proofs.lemmas.Bool.Decides.{nat_tests}
@@ -27,9 +29,9 @@ use Rattle.ring_laws.proofs.StoreCounts.{length-stores}
 use Rattle.ring_laws.proofs.StoreBytes.{HasBytes, call-all}
 use Rattle.ring_laws.proofs.BootLaw.{booted_bytes, booted_image}
 use Rattle.ring_laws.proofs.HeaderWords.{header_words}
-use Rattle.damage_laws.proofs.Touched.{touches, any_range, call-leaves}
+use Rattle.damage_laws.proofs.TouchedBlocks.{touches, any_range, call-leaves}
 use Rattle.damage_laws.proofs.Erasures.{erasure_parts}
-use Rattle.damage_laws.proofs.Seen.{seen_is_exact}
+use Rattle.damage_laws.proofs.FirstPair.{seen_is_exact}
 
 -- ---- runs
 

@@ -1,6 +1,9 @@
 -- Where a call was cut: old ring places in untouched blocks read as told, and the log has no other places in
 -- untouched blocks
-use Rattle.std.proofs.Common.{◌≡◌, ℕ, zero, suc, ◌+◌, ◌-◌, ◌*◌, ◌/◌, ◌%◌, ◌<◌, ◌≤◌, ◌⊎◌, min, Bool, true, false, cond, ◌==◌, List, [], ◌∷◌, ◌++◌, length, take, drop, map, get_or, slice_get, refl, sym, ap, ap₂, ◌∙◌, subst, arith, inl, inr, Some, length-take, length-drop, append-nil, true≢false, eqb-true}
+use Rattle.std.proofs.Common.{◌≡◌, ℕ, zero, suc, ◌+◌, ◌-◌, ◌*◌, ◌/◌, ◌%◌, ◌<◌, ◌≤◌, ◌⊎◌, min, Bool, true, false, cond}
+use Rattle.std.proofs.Common.{◌==◌, List, [], ◌∷◌, ◌++◌, length, take, drop, map, get_or, slice_get, refl, sym, ap, ap₂}
+use Rattle.std.proofs.Common.{◌∙◌, subst, arith, inl, inr, Some, length-take, length-drop, append-nil, true≢false}
+use Rattle.std.proofs.Common.{eqb-true}
 use Rattle.std.specs.Prelude.{Contains}
 use Rattle.std.proofs.Math.Nat.{mod-eq_of_lt}
 use Rattle.std.proofs.lemmas.Bool.{cases_lt, or_left, or_right}
@@ -32,8 +35,8 @@ use Rattle.ring_laws.proofs.EveryParity.{block_has}
 use Rattle.ring_laws.proofs.ReadingLaw.{part_reading-stands}
 use Rattle.ring_laws.proofs.HeaderWords.{header_words}
 use Rattle.damage_laws.proofs.Within.{part_reads, byte_read-stop, place_below}
-use Rattle.damage_laws.proofs.Untouched.{LeavesBlock, untouched_same}
-use Rattle.damage_laws.proofs.Touched.{parity_length, touches, touches-append, call-leaves, run_hits}
+use Rattle.damage_laws.proofs.UntouchedBlocks.{LeavesBlock, untouched_same}
+use Rattle.damage_laws.proofs.TouchedBlocks.{parity_length, touches, touches-append, call-leaves, run_hits}
 
 pub old_places : (z : Zone) (stop now told : List ℕ) (f : Flight) → IsValidZone z → IsImage z stop
     → IsInFlight z stop told f → IsImage z now → OldPlacesRead z (words_before (cut_of z f)) f.call told stop now

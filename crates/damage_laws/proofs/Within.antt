@@ -1,5 +1,7 @@
 -- A part within bounds reads as at its stop, and an idle zone what it was told: at every parity
-use Rattle.std.proofs.Common.{◌≡◌, ℕ, zero, suc, ◌+◌, ◌-◌, ◌*◌, ◌/◌, ◌%◌, ◌<◌, ◌≤◌, ◌==◌, if◌then◌else◌, false, List, [], ◌∷◌, ◌++◌, length, map, take, get_or, slice_get, refl, sym, ap, ap₂, ◌∙◌, subst, arith, inl, inr, ◌⊎◌, Option, Some, None}
+use Rattle.std.proofs.Common.{◌≡◌, ℕ, zero, suc, ◌+◌, ◌-◌, ◌*◌, ◌/◌, ◌%◌, ◌<◌, ◌≤◌, ◌==◌, if◌then◌else◌, false, List}
+use Rattle.std.proofs.Common.{[], ◌∷◌, ◌++◌, length, map, take, get_or, slice_get, refl, sym, ap, ap₂, ◌∙◌, subst}
+use Rattle.std.proofs.Common.{arith, inl, inr, ◌⊎◌, Option, Some, None}
 use Rattle.std.proofs.lemmas.Bool.Decides.{nat_tests}
 use Rattle.std.proofs.lemmas.List.{length-map}
 use Rattle.std.specs.List.{range_with_len}
@@ -12,7 +14,8 @@ use Rattle.zone_spec.specs.declared.State.TheVariants.{Unsigned, Empty, Invalid,
 use Rattle.zone_spec.specs.declared.Verdict.TheVariants.{AsTold}
 use Rattle.zone_spec.specs.Zones.{IsValidZone}
 use Rattle.code_spec.specs.Code.{IsWord, nearest, IsNear}
-use Rattle.zone_spec.specs.Parts.{AreBytes, Part, Header, Block, part_bytes, part_word, words_in, standing_words, IsImage}
+use Rattle.zone_spec.specs.Parts.{AreBytes, Part, Header, Block, part_bytes, part_word, words_in, standing_words}
+use Rattle.zone_spec.specs.Parts.{IsImage}
 use Rattle.zone_spec.specs.PartReadings.{part_reading, words_read}
 use Rattle.zone_spec.specs.Reading.{ZoneReading, byte_read, log_places, state_of, reading_in, zone_reading}
 use Rattle.zone_spec.specs.Ring.{IsRingForm}
@@ -22,7 +25,8 @@ use Rattle.damage_laws.specs.Idle.{PartReadsAsAtStop, IdleZoneReadsTold}
 use Rattle.code_laws.proofs.Nearest.{nearest-IsNear}
 use Rattle.code_laws.proofs.Laws.{nearest_law}
 use Rattle.ring_laws.proofs.PartsLaw.{block_some}
-use Rattle.ring_laws.proofs.PartWords.{part_word-IsWord, length-part_bytes, length-part_word, part_word-short, part_bytes-word, reading_near, reading_none}
+use Rattle.ring_laws.proofs.PartWords.{part_word-IsWord, length-part_bytes, length-part_word, part_word-short}
+use Rattle.ring_laws.proofs.PartWords.{part_bytes-word, reading_near, reading_none}
 use Rattle.ring_laws.proofs.RingBytes.{length-log_places}
 use Rattle.ring_laws.proofs.ReadingLaw.{part_reading-stands, state_of-ring}
 use Rattle.ring_laws.proofs.States.{log_same, reading_is}

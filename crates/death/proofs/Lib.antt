@@ -5,5 +5,5 @@ mod Fronts
 mod Places
 mod Levels
 mod Steps
-mod Listed
-mod Traced
+mod MarkedLines
+mod TraceEntries

@@ -2,7 +2,8 @@
 ghost use Rattle.std.specs.Prelude.{◌≡◌, ◌≤◌, ◌<◌, ◌+◌, ◌^◌, ℕ, [], ◌∷◌, length, IfSome, IfNone};
 ghost use Rattle.death_spec.specs.Marks.{rows};
 ghost use Rattle.death.specs.Rows.{Covers};
-ghost use Rattle.death_spec.specs.Lines.{bracket_end, level_len, stamp_len, caller_len, content_len, line_of, lines_from, part, digits_level, level_of, is_kernels, said, kind, is_a};
+ghost use Rattle.death_spec.specs.Lines.{bracket_end, level_len, stamp_len, caller_len, content_len, line_of};
+ghost use Rattle.death_spec.specs.Lines.{lines_from, part, digits_level, level_of, is_kernels, said, kind, is_a};
 
 use crate::marks::{byte_at, is_mark, line_len, mark_by, mark_of, run_from, tail};
 use death_spec::{Class, Line, Mark};

@@ -1,7 +1,9 @@
 // Words at the front of a text, and runs of bytes.
-ghost use Rattle.std.specs.Prelude.{◌≡◌, ◌≤◌, ◌<◌, ◌+◌, ℕ, List, ◌∷◌, true, false, nat_eq, slice_index_or, length, drop, slice_index};
+ghost use Rattle.std.specs.Prelude.{◌≡◌, ◌≤◌, ◌<◌, ◌+◌, ℕ, List, ◌∷◌, true, false, nat_eq, slice_index_or, length};
+ghost use Rattle.std.specs.Prelude.{drop, slice_index};
 ghost use Rattle.std.specs.List.{starts_with};
-ghost use Rattle.death_spec.specs.Marks.{rows, number_of, is_same, front_in, front_of, front_len, mark_of, is_mark, begins, place_of, is_in, is_blank, run};
+ghost use Rattle.death_spec.specs.Marks.{rows, number_of, is_same, front_in, front_of, front_len, mark_of, is_mark};
+ghost use Rattle.death_spec.specs.Marks.{begins, place_of, is_in, is_blank, run};
 ghost use Rattle.death_spec.specs.declared.Class.TheVariants.{Line};
 ghost use Rattle.death.specs.Rows.{plain, Covers};
 

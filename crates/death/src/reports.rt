@@ -2,7 +2,9 @@
 ghost use Rattle.std.specs.Prelude.{◌≡◌, ◌≤◌, ◌<◌, ◌+◌, if◌then◌else◌, length, map, IfOk, Some, None};
 ghost use Rattle.death_spec.specs.Lines.{said};
 ghost use Rattle.std.specs.Option.{option_or};
-ghost use Rattle.death_spec.specs.Reports.{report, first_of, span, number_end, task_at, task_end, cpu_in, task_in, kernel_in, place_in, entry_in, trace_below, trace_in, function_in, death_with, death_at};
+ghost use Rattle.death_spec.specs.Reports.{report, first_of, span, number_end, task_at, task_end, cpu_in, task_in};
+ghost use Rattle.death_spec.specs.Reports.{kernel_in, place_in, entry_in, trace_below, trace_in, function_in};
+ghost use Rattle.death_spec.specs.Reports.{death_with, death_at};
 ghost use Rattle.death_spec.specs.declared.Mark.TheVariants.{Processor, Place, Trace};
 ghost use Rattle.death_spec.specs.Traces.{name_in, caller_of_panic};
 

@@ -1,6 +1,7 @@
 // The line that tells why the machine died.
 ghost use Rattle.std.specs.Prelude.{◌≡◌, if◌then◌else◌, Some};
-ghost use Rattle.death_spec.specs.Telling.{last_in, is_of_oops, opens, ends_report, open_behind, last_oops, telling_line, is_fatal, cause_of};
+ghost use Rattle.death_spec.specs.Telling.{last_in, is_of_oops, opens, ends_report, open_behind, last_oops};
+ghost use Rattle.death_spec.specs.Telling.{telling_line, is_fatal, cause_of};
 ghost use Rattle.death_spec.specs.declared.Mark.TheVariants.{Panic, Warning};
 
 use crate::lines::{is_a, kind_by, next_line, part, said};

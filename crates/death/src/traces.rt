@@ -2,7 +2,8 @@
 ghost use Rattle.std.specs.Prelude.{◌≡◌, ◌≤◌, ◌<◌, [], ◌∷◌, length, map, drop, IfSome, IfNone, IfOk, None};
 ghost use Rattle.death_spec.specs.Marks.{run};
 ghost use Rattle.death_spec.specs.Lines.{said};
-ghost use Rattle.death_spec.specs.Traces.{name_at, unplaced, is_entry, is_of_trace, name_in, entries, first, is_panic, caller_of_panic};
+ghost use Rattle.death_spec.specs.Traces.{name_at, unplaced, is_entry, is_of_trace, name_in, entries, first, is_panic};
+ghost use Rattle.death_spec.specs.Traces.{caller_of_panic};
 ghost use Rattle.death_spec.specs.declared.Class.TheVariants.{Name};
 
 use crate::lines::{next_line, said};

@@ -1,9 +1,11 @@
 -- The words by which a kernel's lines are told apart, and runs of bytes
-use Rattle.std.specs.Prelude.{ℕ, ◌+◌, Bool, not, ◌&&◌, ◌||◌, ◌==◌, nat_eq, nat_le, if◌then◌else◌, List, [], ◌∷◌, length, map, Option, Some, None, false}
+use Rattle.std.specs.Prelude.{ℕ, ◌+◌, Bool, not, ◌&&◌, ◌||◌, ◌==◌, nat_eq, nat_le, if◌then◌else◌, List, [], ◌∷◌, length}
+use Rattle.std.specs.Prelude.{map, Option, Some, None, false}
 use Rattle.std.specs.List.{starts_with, prefix_len}
 use Rattle.std.specs.Option.{option_map, option_map_or}
 use Rattle.death_spec.specs.declared.Mark.{Mark}
-use Rattle.death_spec.specs.declared.Mark.TheVariants.{Panic, Fault, Oops, Warning, End, Processor, Place, Trace, Kernel, Fatal, Offset, Unsure, Stack, Address}
+use Rattle.death_spec.specs.declared.Mark.TheVariants.{Panic, Fault, Oops, Warning, End, Processor, Place, Trace}
+use Rattle.death_spec.specs.declared.Mark.TheVariants.{Kernel, Fatal, Offset, Unsure, Stack, Address}
 use Rattle.death_spec.specs.declared.words.TheConstants.{WORDS}
 use Rattle.death_spec.specs.declared.Class.{Class}
 use Rattle.death_spec.specs.declared.Class.TheVariants.{Line, Blank, Word, Name, Digit, Number}

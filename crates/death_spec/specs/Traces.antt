@@ -1,5 +1,6 @@
 -- A call trace: the functions that had called one another, the last one first
-use Rattle.std.specs.Prelude.{ℕ, ◌+◌, Bool, ◌&&◌, ◌||◌, ◌==◌, nat_lt, if◌then◌else◌, List, [], ◌∷◌, length, take, drop, codes, bytes_eq, Option, Some, None}
+use Rattle.std.specs.Prelude.{ℕ, ◌+◌, Bool, ◌&&◌, ◌||◌, ◌==◌, nat_lt, if◌then◌else◌, List, [], ◌∷◌, length, take, drop}
+use Rattle.std.specs.Prelude.{codes, bytes_eq, Option, Some, None}
 use Rattle.std.specs.List.{filter, take_while}
 use Rattle.death_spec.specs.declared.Line.{Line}
 use Rattle.death_spec.specs.declared.Span.{Span}

@@ -1,9 +1,12 @@
 -- Chien's search: the powers at whose reciprocals the locator is zero are those of the places that differ. For
 -- `own_roots` and `candidate` in rs_decode.
 use Rattle.std.proofs.lemmas.Bool.{cases_eq}
-use Rattle.std.proofs.Common.{◌≡◌, ◌≢◌, ℕ, zero, suc, ◌-◌, ◌≤◌, ◌<◌, eqb, true, false, cond, refl, sym, ap, ap₂, ◌∙◌, subst, arith, List, [], ◌∷◌, ◌++◌, length, ◌⊎◌, inl, inr, append_assoc, ◌+◌, get_or, take, take_all}
+use Rattle.std.proofs.Common.{◌≡◌, ◌≢◌, ℕ, zero, suc, ◌-◌, ◌≤◌, ◌<◌, eqb, true, false, cond, refl, sym, ap, ap₂, ◌∙◌}
+use Rattle.std.proofs.Common.{subst, arith, List, [], ◌∷◌, ◌++◌, length, ◌⊎◌, inl, inr, append_assoc, ◌+◌, get_or, take}
+use Rattle.std.proofs.Common.{take_all}
 use Rattle.code_spec.specs.Field.{gf_add, gf_mul, gf_pow}
-use Rattle.code_laws.proofs.Ring.{add_self, mul_comm, zero_mul, mul_zero, mul_below, add_below, mul_cancel_zero, pow_below}
+use Rattle.code_laws.proofs.Ring.{add_self, mul_comm, zero_mul, mul_zero, mul_below, add_below, mul_cancel_zero}
+use Rattle.code_laws.proofs.Ring.{pow_below}
 use Rattle.decoder_laws.specs.Series.{horner}
 use Rattle.decoder_laws.proofs.Horner.{horner-scale}
 use Rattle.code_laws.specs.Locators.{Spot}

@@ -1,7 +1,8 @@
 -- A codeword near a word leaves damage with the word's syndromes, and of such damage Euclid's algorithm finds the
 -- locator and the evaluator. For `candidate` and `corrected` in rs_decode.
 use Rattle.std.proofs.lemmas.Bool.{cases_eq}
-use Rattle.std.proofs.Common.{◌≡◌, ◌≢◌, ℕ, zero, suc, ◌+◌, ◌≤◌, ◌<◌, Bool, cond, refl, sym, ap, ◌∙◌, subst, arith, List, [], ◌∷◌, length, get_or, take, ◌⊎◌, inl, inr, zero-add, reverse, ◌/◌}
+use Rattle.std.proofs.Common.{◌≡◌, ◌≢◌, ℕ, zero, suc, ◌+◌, ◌≤◌, ◌<◌, Bool, cond, refl, sym, ap, ◌∙◌, subst, arith, List}
+use Rattle.std.proofs.Common.{[], ◌∷◌, length, get_or, take, ◌⊎◌, inl, inr, zero-add, reverse, ◌/◌}
 use Rattle.std.proofs.lemmas.List.{get_or-take}
 use Rattle.code_spec.specs.Field.{gf_add, gf_mul, gf_pow}
 use Rattle.code_laws.proofs.Ring.{mul_zero, mul_cancel_zero, add_zero}
@@ -12,7 +13,8 @@ use Rattle.std.proofs.lemmas.Bool.{cases_lt, eq-eqb, ne_eqb}
 use Rattle.decoder_laws.proofs.Powers.{pow_some}
 use Rattle.decoder_laws.proofs.Chien.{spots_skip, spots_keep, spots_of-nil}
 use Rattle.decoder_laws.proofs.Polynomials.{poly-reverse, poly-leading}
-use Rattle.code_laws.proofs.Words.{spots_of, value_of_spots, spots_of-are, word_sum, length-word_sum, value_of-word_sum, symbols-word_sum, spots_distance_is}
+use Rattle.code_laws.proofs.Words.{spots_of, value_of_spots, spots_of-are, word_sum, length-word_sum, value_of-word_sum}
+use Rattle.code_laws.proofs.Words.{symbols-word_sum, spots_distance_is}
 use Rattle.decoder_laws.specs.Series.{scale, Below, Bytes, Agree}
 use Rattle.code_laws.specs.Locators.{Spot, power_sum, AreSpots}
 use Rattle.decoder_laws.specs.Locators.{evaluator}

@@ -3,7 +3,9 @@
 use Rattle.std.proofs.Common.{◌≡◌, ℕ, sym, ap, ap₂, ◌∙◌}
 use Rattle.decoder_laws.specs.Series.{plus, times, shift, none, one, Bytes}
 use Rattle.decoder_laws.specs.Euclid.{IsEuclid, IsStep}
-use Rattle.decoder_laws.proofs.Series.{times-plus_left, times_assoc, times-none_left, plus-none, times-one_left, shift_below, series, plus_assoc, one-bytes, shift-bytes, plus-agree, agree_from_equal, times-agree}
+use Rattle.decoder_laws.proofs.Series.{times-plus_left, times_assoc, times-none_left, plus-none, times-one_left}
+use Rattle.decoder_laws.proofs.Series.{shift_below, series, plus_assoc, one-bytes, shift-bytes, plus-agree}
+use Rattle.decoder_laws.proofs.Series.{agree_from_equal, times-agree}
 
 pub euclid_start : (n : ℕ) (S : ℕ → ℕ) → Bytes S → IsEuclid n S one none S (shift n one)
 unfolding none

@@ -1,8 +1,10 @@
 -- Forney's formula: the symbol of a place is the evaluator's value there over that of the locator's derivative. For
 -- `ratio`, `fix_of` and `candidate` in rs_decode.
-use Rattle.std.proofs.Common.{◌≡◌, ◌≢◌, ℕ, zero, suc, ◌-◌, ◌≤◌, ◌<◌, ◌==◌, if◌then◌else◌, eqb, refl, sym, ap, ap₂, ◌∙◌, subst, arith, List, [], ◌∷◌, length, ◌⊎◌, inl, inr, get_or}
+use Rattle.std.proofs.Common.{◌≡◌, ◌≢◌, ℕ, zero, suc, ◌-◌, ◌≤◌, ◌<◌, ◌==◌, if◌then◌else◌, eqb, refl, sym, ap, ap₂, ◌∙◌}
+use Rattle.std.proofs.Common.{subst, arith, List, [], ◌∷◌, length, ◌⊎◌, inl, inr, get_or}
 use Rattle.code_spec.specs.Field.{gf_add, gf_mul, gf_pow}
-use Rattle.code_laws.proofs.Ring.{ring, add_self, zero_add, add_zero, mul_left_comm, mul_zero, mul_one, one_mul, mul_below, add_below, mul_cancel_zero, pow_suc, pow_zero, pow_below}
+use Rattle.code_laws.proofs.Ring.{ring, add_self, zero_add, add_zero, mul_left_comm, mul_zero, mul_one, one_mul}
+use Rattle.code_laws.proofs.Ring.{mul_below, add_below, mul_cancel_zero, pow_suc, pow_zero, pow_below}
 use Rattle.decoder_laws.specs.Series.{Below, linear, horner}
 use Rattle.decoder_laws.proofs.Horner.{horner-linear, horner-scale, horner-factor}
 use Rattle.decoder_laws.specs.Locators.{locator, evaluator}
@@ -19,7 +21,8 @@ use Rattle.decoder_laws.specs.Chien.{at_power, powers_of}
 use Rattle.decoder_laws.specs.Forney.{gap_ratio, Below255}
 use Rattle.std.proofs.lemmas.Bool.{cases_lt, cases_eq, ne_eqb, eq-eqb, cond-true, cond-false}
 use Rattle.code_laws.proofs.Powers.{pow_inverse}
-use Rattle.decoder_laws.proofs.Chien.{spots_skip, spots_keep, at_here, at_below, locator_at_place, powers_skip, powers_keep}
+use Rattle.decoder_laws.proofs.Chien.{spots_skip, spots_keep, at_here, at_below, locator_at_place, powers_skip}
+use Rattle.decoder_laws.proofs.Chien.{powers_keep}
 use Rattle.decoder_laws.specs.Damage.{IsFound}
 
 -- the product of X + Y over the other locators Y: the value of the locator's derivative

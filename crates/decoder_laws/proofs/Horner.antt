@@ -1,10 +1,13 @@
 -- The factor 1 + X x and its inverse, whose coefficients are the values at X (Horner's rule). For the key equation, and
 -- for the roots of a polynomial.
-use Rattle.std.proofs.Common.{◌≡◌, ℕ, zero, suc, ◌+◌, ◌≤◌, ◌<◌, refl, sym, ap, ap₂, ◌∙◌, arith, suc-add, zero-add, ◌-◌, subst}
+use Rattle.std.proofs.Common.{◌≡◌, ℕ, zero, suc, ◌+◌, ◌≤◌, ◌<◌, refl, sym, ap, ap₂, ◌∙◌, arith, suc-add, zero-add, ◌-◌}
+use Rattle.std.proofs.Common.{subst}
 use Rattle.code_spec.specs.Field.{gf_add, gf_mul, gf_pow}
-use Rattle.code_laws.proofs.Ring.{ring, sums, zero_add, add_zero, mul_add, mul_comm, mul_assoc, mul_left_comm, mul_zero, one_mul, mul_below, add_below, pow_suc, pow_zero, mul_one}
+use Rattle.code_laws.proofs.Ring.{ring, sums, zero_add, add_zero, mul_add, mul_comm, mul_assoc, mul_left_comm, mul_zero}
+use Rattle.code_laws.proofs.Ring.{one_mul, mul_below, add_below, pow_suc, pow_zero, mul_one}
 use Rattle.decoder_laws.specs.Series.{tail, cons, plus, scale, times, none, one, Below, Bytes, linear, horner}
-use Rattle.decoder_laws.proofs.Series.{add_swap, times-plus_left, times_comm, times-scale_left, times-none_left, times-cons_zero, none_from_below}
+use Rattle.decoder_laws.proofs.Series.{add_swap, times-plus_left, times_comm, times-scale_left, times-none_left}
+use Rattle.decoder_laws.proofs.Series.{times-cons_zero, none_from_below}
 
 -- ---- the linear factor and its inverse
 pub horner-linear_at : (X : ℕ) (p : ℕ → ℕ) (k : ℕ) → horner X (linear X p) k ≡ p k

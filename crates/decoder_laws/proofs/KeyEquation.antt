@@ -7,7 +7,9 @@ use Rattle.decoder_laws.specs.Series.{plus, scale, times, shift, none, one, Belo
 use Rattle.decoder_laws.specs.Locators.{locator, evaluator}
 use Rattle.decoder_laws.specs.Euclid.{IsEuclid}
 use Rattle.code_laws.specs.Locators.{Spot, power_sum, AreSpots}
-use Rattle.decoder_laws.proofs.Series.{times-plus, times_assoc, times_comm, times_left_comm, times-scale, times-one_left, times-shift, shift_injective, unshift, times-none, one-bytes, agree_zero, agree_trans, agree_sym, agree_of, times-agree}
+use Rattle.decoder_laws.proofs.Series.{times-plus, times_assoc, times_comm, times_left_comm, times-scale}
+use Rattle.decoder_laws.proofs.Series.{times-one_left, times-shift, shift_injective, unshift, times-none, one-bytes}
+use Rattle.decoder_laws.proofs.Series.{agree_zero, agree_trans, agree_sym, agree_of, times-agree}
 use Rattle.decoder_laws.proofs.Horner.{times-linear_left, times-linear, linear-geometric, linear-bytes, linear-below}
 
 pub locator-bytes : (ss : List Spot) → Bytes (locator ss)

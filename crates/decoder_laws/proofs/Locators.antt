@@ -1,12 +1,15 @@
 -- Values of the locator and of the evaluator at the locators, and that a polynomial with more roots than its degree is
 -- zero. For the end of Euclid's algorithm, Chien's search and Forney's formula.
-use Rattle.std.proofs.Common.{◌≡◌, ◌≢◌, ℕ, zero, suc, ◌<◌, refl, sym, ap, ap₂, ◌∙◌, arith, List, [], ◌∷◌, length, zero-le}
+use Rattle.std.proofs.Common.{◌≡◌, ◌≢◌, ℕ, zero, suc, ◌<◌, refl, sym, ap, ap₂, ◌∙◌, arith, List, [], ◌∷◌, length}
+use Rattle.std.proofs.Common.{zero-le}
 use Rattle.code_spec.specs.Field.{gf_add, gf_mul}
-use Rattle.code_laws.proofs.Ring.{add_self, zero_add, add_zero, mul_left_comm, zero_mul, mul_zero, mul_below, add_below, equal_from_add, mul_cancel_zero}
+use Rattle.code_laws.proofs.Ring.{add_self, zero_add, add_zero, mul_left_comm, zero_mul, mul_zero, mul_below, add_below}
+use Rattle.code_laws.proofs.Ring.{equal_from_add, mul_cancel_zero}
 use Rattle.decoder_laws.specs.Series.{scale, one, Below, Bytes, linear, horner}
 use Rattle.decoder_laws.specs.Locators.{locator, evaluator}
 use Rattle.code_laws.specs.Locators.{Spot, NotAmong, AreSpots}
-use Rattle.decoder_laws.proofs.Horner.{horner-plus, horner-scale, horner-linear, linear-horner, horner-bytes, horner-factor, root_below, linear-zero}
+use Rattle.decoder_laws.proofs.Horner.{horner-plus, horner-scale, horner-linear, linear-horner, horner-bytes}
+use Rattle.decoder_laws.proofs.Horner.{horner-factor, root_below, linear-zero}
 use Rattle.decoder_laws.proofs.KeyEquation.{locator-below, evaluator-below}
 
 -- the product of X + Y over the locators Y: the value of the locator at 1 / X, times a power of X

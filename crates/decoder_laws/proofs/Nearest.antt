@@ -1,11 +1,13 @@
 -- The nearest codeword, where a codeword is near or none is, and what the excess of the parity tells: it has the word's
 -- values, and is zero where the word is a codeword. For `decode_within_by`, `has_excess` and `corrected` in rs_decode.
 use Rattle.std.proofs.lemmas.Bool.{and_parts}
-use Rattle.std.proofs.Common.{◌≡◌, ℕ, zero, suc, ◌+◌, ◌/◌, ◌≤◌, ◌<◌, Bool, true, false, refl, sym, ap, ◌∙◌, arith, List, [], ◌∷◌, ◌++◌, length, get_or, Option, Some, None}
+use Rattle.std.proofs.Common.{◌≡◌, ℕ, zero, suc, ◌+◌, ◌/◌, ◌≤◌, ◌<◌, Bool, true, false, refl, sym, ap, ◌∙◌, arith, List}
+use Rattle.std.proofs.Common.{[], ◌∷◌, ◌++◌, length, get_or, Option, Some, None}
 use Rattle.std.proofs.Math.Dec.{leb}
 use Rattle.std.proofs.lemmas.Bool.{leb-true}
 use Rattle.code_spec.specs.Field.{gf_add, gf_mul, gf_pow}
-use Rattle.code_spec.specs.Code.{value_of, distance, nearest, nearest_if, is_near, is_codeword, IsCodeword, IsWord, IsNear, parity_of}
+use Rattle.code_spec.specs.Code.{value_of, distance, nearest, nearest_if, is_near, is_codeword, IsCodeword, IsWord}
+use Rattle.code_spec.specs.Code.{IsNear, parity_of}
 use Rattle.code_laws.proofs.Ring.{add_self, equal_from_add, one_mul}
 use Rattle.code_laws.proofs.Symbols.{HasRoots, Symbols, IsAdded}
 use Rattle.code_laws.proofs.Words.{value_of-added, value_of-append}

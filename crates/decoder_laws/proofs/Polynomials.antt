@@ -1,15 +1,19 @@
 -- The polynomial of a word: symbols in front of it and behind it, zeros, sums, shifts, and its value at a reciprocal.
 -- For Chien's search and Forney's formula, and for `reduce` and `solve` in rs_decode.
 use Rattle.list_laws.proofs.Elements.{get_or-replicate_default}
-use Rattle.std.proofs.Common.{◌≡◌, ℕ, zero, suc, ◌+◌, ◌≤◌, ◌<◌, refl, sym, ap, ap₂, ◌∙◌, arith, List, [], ◌∷◌, ◌++◌, length, get_or, replicate, take, drop, get_or-drop, length-drop, ◌≢◌, ◌-◌, subst, reverse, ◌⊎◌, inl, inr, length-append, add-zero, append_assoc, zero-add, append-nil}
+use Rattle.std.proofs.Common.{◌≡◌, ℕ, zero, suc, ◌+◌, ◌≤◌, ◌<◌, refl, sym, ap, ap₂, ◌∙◌, arith, List, [], ◌∷◌, ◌++◌}
+use Rattle.std.proofs.Common.{length, get_or, replicate, take, drop, get_or-drop, length-drop, ◌≢◌, ◌-◌, subst, reverse}
+use Rattle.std.proofs.Common.{◌⊎◌, inl, inr, length-append, add-zero, append_assoc, zero-add, append-nil}
 use Rattle.code_spec.specs.Field.{gf_add, gf_mul, gf_pow}
 use Rattle.code_laws.proofs.Ring.{zero_add, mul_one, ring, one_mul, pow_below, zero_mul, pow_suc, pow_zero}
 use Rattle.decoder_laws.specs.Series.{cons, plus, scale, times, none, Below, shift, one, Bytes, horner}
 use Rattle.code_laws.proofs.Symbols.{IsAdded}
 use Rattle.decoder_laws.specs.Polynomials.{poly, poly_on, LeadingZeros}
-use Rattle.decoder_laws.proofs.Series.{plus-none, scale-none, times-one_left, times-scale_left, times-shift_left, shift-cons, none-bytes}
+use Rattle.decoder_laws.proofs.Series.{plus-none, scale-none, times-one_left, times-scale_left, times-shift_left}
+use Rattle.decoder_laws.proofs.Series.{shift-cons, none-bytes}
 use Rattle.std.proofs.lemmas.Bool.{cases_lt}
-use Rattle.std.proofs.lemmas.List.{length-replicate, length-reverse, get_or-reverse, get_or_past, get_or_append_left, get_or-append_right, reverse-append, get_or_push}
+use Rattle.std.proofs.lemmas.List.{length-replicate, length-reverse, get_or-reverse, get_or_past, get_or_append_left}
+use Rattle.std.proofs.lemmas.List.{get_or-append_right, reverse-append, get_or_push}
 use Rattle.list_laws.proofs.Elements.{replicate_from_places}
 use Rattle.code_spec.specs.Code.{value_of}
 use Rattle.code_laws.proofs.Words.{value_of-nil, value_of-push}

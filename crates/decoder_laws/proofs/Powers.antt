@@ -1,8 +1,11 @@
 -- Powers of 2 differ and are not zero, factors cancel, inverses are unique, and powers wrap at 255. For Chien's search,
 -- Forney's formula, and the sums of logarithms in rs_decode.
-use Rattle.std.proofs.Common.{◌≡◌, ◌≢◌, ℕ, zero, suc, ◌+◌, ◌≤◌, ◌<◌, sym, ap, ◌∙◌, arith, List, [], ◌∷◌, length, ◌⊎◌, inl, inr}
+use Rattle.std.proofs.Common.{◌≡◌, ◌≢◌, ℕ, zero, suc, ◌+◌, ◌≤◌, ◌<◌, sym, ap, ◌∙◌, arith, List, [], ◌∷◌, length, ◌⊎◌}
+use Rattle.std.proofs.Common.{inl, inr}
 use Rattle.code_spec.specs.Field.{gf_add, gf_mul, gf_pow}
-use Rattle.code_laws.proofs.Ring.{mul_comm, mul_one, mul_below, add_below, mul_cancel_zero, pow_suc, pow_zero, pow_below, ring, add_self, mul_add, one_mul, equal_from_add, pow_add, pow_distinct, pow_255, mul_assoc}
+use Rattle.code_laws.proofs.Ring.{mul_comm, mul_one, mul_below, add_below, mul_cancel_zero, pow_suc, pow_zero}
+use Rattle.code_laws.proofs.Ring.{pow_below, ring, add_self, mul_add, one_mul, equal_from_add, pow_add, pow_distinct}
+use Rattle.code_laws.proofs.Ring.{pow_255, mul_assoc}
 use Rattle.code_spec.specs.Code.{value_of}
 use Rattle.std.proofs.lemmas.Bool.{cases_lt}
 

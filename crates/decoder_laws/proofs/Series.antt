@@ -1,8 +1,11 @@
 -- The laws of power series: a ring, its shifts, degrees and low coefficients. For all files of these laws, and for the
 -- rows of Euclid's algorithm in rs_decode.
-use Rattle.std.proofs.Common.{◌≡◌, ℕ, zero, suc, ◌+◌, ◌≤◌, ◌<◌, refl, sym, ap, ap₂, ◌∙◌, arith, suc-add, zero-add, zero-le, subst, ◌⊎◌, inl, inr}
+use Rattle.std.proofs.Common.{◌≡◌, ℕ, zero, suc, ◌+◌, ◌≤◌, ◌<◌, refl, sym, ap, ap₂, ◌∙◌, arith, suc-add, zero-add}
+use Rattle.std.proofs.Common.{zero-le, subst, ◌⊎◌, inl, inr}
 use Rattle.code_spec.specs.Field.{gf_add, gf_mul}
-use Rattle.code_laws.proofs.Ring.{sums, add_comm, add_assoc, add_left_comm, add_self, add_cancel, zero_add, add_zero, mul_add, add_mul, mul_comm, mul_assoc, zero_mul, mul_zero, one_mul, mul_below, add_below, mul_one}
+use Rattle.code_laws.proofs.Ring.{sums, add_comm, add_assoc, add_left_comm, add_self, add_cancel, zero_add, add_zero}
+use Rattle.code_laws.proofs.Ring.{mul_add, add_mul, mul_comm, mul_assoc, zero_mul, mul_zero, one_mul, mul_below}
+use Rattle.code_laws.proofs.Ring.{add_below, mul_one}
 use Rattle.decoder_laws.specs.Series.{tail, cons, plus, scale, times, shift, none, one, Below, Agree, Bytes}
 use Rattle.std.proofs.lemmas.Bool.{cases_lt}
 

@@ -1,16 +1,22 @@
 -- The pair at which Euclid's algorithm stops is the locator and the evaluator, up to a factor. For the theorem in
 -- Damage.
 use Rattle.std.proofs.lemmas.Bool.{cases_lt}
-use Rattle.std.proofs.Common.{◌≡◌, ◌≢◌, ℕ, zero, suc, ◌+◌, ◌-◌, ◌≤◌, ◌<◌, refl, sym, ap, ap₂, ◌∙◌, subst, arith, List, [], ◌∷◌, length, ◌⊎◌, inl, inr}
+use Rattle.std.proofs.Common.{◌≡◌, ◌≢◌, ℕ, zero, suc, ◌+◌, ◌-◌, ◌≤◌, ◌<◌, refl, sym, ap, ap₂, ◌∙◌, subst, arith, List}
+use Rattle.std.proofs.Common.{[], ◌∷◌, length, ◌⊎◌, inl, inr}
 use Rattle.code_spec.specs.Field.{gf_add, gf_mul, gf_pow}
-use Rattle.code_laws.proofs.Ring.{zero_add, mul_comm, zero_mul, mul_zero, mul_below, add_below, mul_cancel_zero, pow_below}
+use Rattle.code_laws.proofs.Ring.{zero_add, mul_comm, zero_mul, mul_zero, mul_below, add_below, mul_cancel_zero}
+use Rattle.code_laws.proofs.Ring.{pow_below}
 use Rattle.decoder_laws.specs.Series.{plus, scale, times, one, Below, Agree, Bytes, horner}
 use Rattle.decoder_laws.specs.Locators.{locator, evaluator}
 use Rattle.decoder_laws.specs.Euclid.{IsEuclid, IsStop}
 use Rattle.code_laws.specs.Locators.{Spot, power_sum, NotAmong, AreSpots}
-use Rattle.decoder_laws.proofs.Series.{times_comm, times-scale, times-one_left, times-below, times-bytes, equal_from_agree, agree_trans, agree_of, times-agree, below_weaken, below_comm, constant}
-use Rattle.decoder_laws.proofs.KeyEquation.{quotient, multiple, key_equation, cross, locator-bytes, locator-below, locator-zero, evaluator-below, evaluator-bytes}
-use Rattle.decoder_laws.proofs.Locators.{spot_at, others, locator_at, locator_at_some, locator_at-below, locator_at_own, horner-locator, horner-evaluator_spot, AllRoots, root_bound}
+use Rattle.decoder_laws.proofs.Series.{times_comm, times-scale, times-one_left, times-below, times-bytes}
+use Rattle.decoder_laws.proofs.Series.{equal_from_agree, agree_trans, agree_of, times-agree, below_weaken, below_comm}
+use Rattle.decoder_laws.proofs.Series.{constant}
+use Rattle.decoder_laws.proofs.KeyEquation.{quotient, multiple, key_equation, cross, locator-bytes, locator-below}
+use Rattle.decoder_laws.proofs.KeyEquation.{locator-zero, evaluator-below, evaluator-bytes}
+use Rattle.decoder_laws.proofs.Locators.{spot_at, others, locator_at, locator_at_some, locator_at-below, locator_at_own}
+use Rattle.decoder_laws.proofs.Locators.{horner-locator, horner-evaluator_spot, AllRoots, root_bound}
 use Rattle.decoder_laws.proofs.Horner.{horner-product, horner_past, horner-bytes}
 use Rattle.decoder_laws.proofs.Powers.{pow_some}
 

@@ -2,7 +2,8 @@
 //! places by Chien's search and their symbols by Forney's formula. Each law is a function whose contract it is.
 #![tactic(auto)]
 
-ghost use Rattle.decoder_laws.specs.Laws.{KeyEquation, NearLeavesDamage, EuclidFindsLocator, ChienFindsPlaces, ForneyFindsSymbols};
+ghost use Rattle.decoder_laws.specs.Laws.{KeyEquation, NearLeavesDamage, EuclidFindsLocator, ChienFindsPlaces};
+ghost use Rattle.decoder_laws.specs.Laws.{ForneyFindsSymbols};
 
 /// The locator times the power sums is the evaluator.
 pub fn key_equation()

@@ -1,5 +1,6 @@
 -- The nodes of all lines
-use Rattle.std.proofs.Common.{◌≡◌, ℕ, ◌+◌, ◌<◌, suc, List, [], ◌∷◌, ◌++◌, length, drop, refl, ap, sym, ◌∙◌, add-one, append_assoc, drop-cons, get_or, Result, Ok, Err}
+use Rattle.std.proofs.Common.{◌≡◌, ℕ, ◌+◌, ◌<◌, suc, List, [], ◌∷◌, ◌++◌, length, drop, refl, ap, sym, ◌∙◌, add-one}
+use Rattle.std.proofs.Common.{append_assoc, drop-cons, get_or, Result, Ok, Err}
 use Rattle.std.specs.Prelude.{map}
 use Rattle.std.specs.Global.{Vec}
 use Rattle.std.proofs.lemmas.List.{append-nil, map-append}
@@ -10,7 +11,7 @@ use Rattle.dtb.specs.declared.Node.{Node}
 use Rattle.dtb.specs.declared.DtbError.{DtbError}
 use Rattle.dtb.specs.declared.DtbError.TheVariants.{Memory, Broken}
 use Rattle.dtb.specs.Walks.{HasLines, GivesLines}
-use Rattle.dtb.specs.Told.{shown, GivesNode, Answers}
+use Rattle.dtb.specs.ReaderAnswers.{shown, GivesNode, Answers}
 
 abbrev pub items_of : List (Vec ℕ) → List (List ℕ)
 items_of lines = map (λ line. line.items) lines

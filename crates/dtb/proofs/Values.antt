@@ -1,5 +1,6 @@
 -- A search of a property
-use Rattle.std.proofs.Common.{◌≡◌, ℕ, zero, suc, ◌+◌, ◌<◌, List, [], length, refl, ap, sym, ◌∙◌, arith, Some, None, true, false, Ok, Err}
+use Rattle.std.proofs.Common.{◌≡◌, ℕ, zero, suc, ◌+◌, ◌<◌, List, [], length, refl, ap, sym, ◌∙◌, arith, Some, None}
+use Rattle.std.proofs.Common.{true, false, Ok, Err}
 use Rattle.std.specs.Str.{bytes_eq}
 use Rattle.dtb_spec.specs.Cells.{span_of}
 use Rattle.dtb_spec.specs.Tokens.{token_at}

@@ -6,7 +6,7 @@ ghost use Rattle.std.specs.Prelude.{◌≡◌, ◌<◌, ◌≤◌, ◌^◌, IfOk
 ghost use Rattle.dtb_spec.specs.Headers.{fits as fits_in, header_of};
 ghost use Rattle.dtb_spec.specs.Ramoops.{node_of, nodes_between, nodes_of};
 ghost use Rattle.dtb.specs.Inside.{IsInside};
-ghost use Rattle.dtb.specs.Told.{GivesNode, Answers};
+ghost use Rattle.dtb.specs.ReaderAnswers.{GivesNode, Answers};
 
 mod cells;
 mod properties;

@@ -1,5 +1,6 @@
 // The properties of the nodes.
-ghost use Rattle.std.specs.Prelude.{◌≡◌, ◌+◌, ◌-◌, ◌<◌, ◌≤◌, ◌^◌, nat_lt, codes, length, slice_index, flat_map, ◌++◌, IfOk, IfSome, OnOk};
+ghost use Rattle.std.specs.Prelude.{◌≡◌, ◌+◌, ◌-◌, ◌<◌, ◌≤◌, ◌^◌, nat_lt, codes, length, slice_index, flat_map, ◌++◌};
+ghost use Rattle.std.specs.Prelude.{IfOk, IfSome, OnOk};
 ghost use Rattle.dtb_spec.specs.Cells.{span_of};
 ghost use Rattle.dtb_spec.specs.Properties.{name_at, path_of, properties_from, value_among, value_of};
 ghost use Rattle.dtb_spec.specs.Ramoops.{number_of, parent_number};

@@ -1,6 +1,9 @@
 // The ramoops nodes and their numbers.
 ghost use Rattle.std.specs.Prelude.{◌≡◌, ◌+◌, ◌*◌, ◌-◌, ◌<◌, ◌≤◌, ◌^◌, true, Some, length, IfOk, IfSome};
-ghost use Rattle.dtb_spec.specs.Ramoops.{begins_with, lists_ramoops as lists, is_ramoops as is_one, is_available as available, own as own_in, wide as wide_at, region_in as region_at, region_of, numbers_of, settled as settled_as, is_reserved as is_under};
+ghost use Rattle.dtb_spec.specs.Ramoops.{begins_with, lists_ramoops as lists, is_ramoops as is_one};
+ghost use Rattle.dtb_spec.specs.Ramoops.{is_available as available, own as own_in, wide as wide_at};
+ghost use Rattle.dtb_spec.specs.Ramoops.{region_in as region_at, region_of, numbers_of, settled as settled_as};
+ghost use Rattle.dtb_spec.specs.Ramoops.{is_reserved as is_under};
 ghost use Rattle.dtb.specs.Inside.{IsInside};
 
 use crate::cells::{cell, until};

@@ -2,7 +2,8 @@
 #![tactic(auto)]
 
 ghost use Rattle.dtb_laws.specs.Laws.{EnoughTokens, EnoughProperties, AreLinesOfNodes};
-ghost use Rattle.dtb_laws.specs.Rows.{SmallRow, CutRow, TokenRow, FirstCellRow, OldBoardRow, LargeRow, ShortRow, StatusRow};
+ghost use Rattle.dtb_laws.specs.Rows.{SmallRow, CutRow, TokenRow, FirstCellRow, OldBoardRow, LargeRow, ShortRow};
+ghost use Rattle.dtb_laws.specs.Rows.{StatusRow};
 
 /// The nodes are the same however many more tokens may be read, so the number that the definition counts down is no
 /// limit.

@@ -1,5 +1,6 @@
 -- Where the blocks of a tree lie (section 5.2)
-use Rattle.std.specs.Prelude.{ℕ, ◌+◌, ◌%◌, ◌==◌, nat_lt, nat_le, Bool, not, ◌&&◌, ◌||◌, if◌then◌else◌, List, length, Result, Ok, Err}
+use Rattle.std.specs.Prelude.{ℕ, ◌+◌, ◌%◌, ◌==◌, nat_lt, nat_le, Bool, not, ◌&&◌, ◌||◌, if◌then◌else◌, List, length}
+use Rattle.std.specs.Prelude.{Result, Ok, Err}
 use Rattle.dtb_spec.specs.Cells.{cell, span}
 use Rattle.dtb_spec.specs.declared.Span.{Span}
 use Rattle.dtb_spec.specs.declared.Header.{Header}

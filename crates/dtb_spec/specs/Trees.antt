@@ -1,5 +1,6 @@
 -- The nodes that the tokens stand for (section 5.4.2). A node is known by the place where it begins
-use Rattle.std.specs.Prelude.{ℕ, zero, suc, ◌+◌, ◌-◌, ◌==◌, nat_lt, Bool, true, false, ◌&&◌, if◌then◌else◌, List, [], ◌∷◌, ◌++◌, length, take, Result, Ok, Err}
+use Rattle.std.specs.Prelude.{ℕ, zero, suc, ◌+◌, ◌-◌, ◌==◌, nat_lt, Bool, true, false, ◌&&◌, if◌then◌else◌, List, []}
+use Rattle.std.specs.Prelude.{◌∷◌, ◌++◌, length, take, Result, Ok, Err}
 use Rattle.dtb_spec.specs.Cells.{◌>>=◌}
 use Rattle.dtb_spec.specs.Tokens.{token_at}
 use Rattle.dtb_spec.specs.declared.Token.{Token}

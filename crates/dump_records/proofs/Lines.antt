@@ -1,5 +1,7 @@
 -- A time line by its parts: what the reader finds, and what the writer leaves
-use Rattle.std.proofs.Common.{◌≡◌, ℕ, suc, ◌+◌, ◌-◌, ◌<◌, ◌≤◌, ◌^◌, Bool, true, false, List, [], ◌∷◌, ◌++◌, length, take, drop, refl, sym, ap, ◌∙◌, arith, None, Some, leb, length-drop, length-append, append_assoc}
+use Rattle.std.proofs.Common.{◌≡◌, ℕ, suc, ◌+◌, ◌-◌, ◌<◌, ◌≤◌, ◌^◌, Bool, true, false, List, [], ◌∷◌, ◌++◌, length}
+use Rattle.std.proofs.Common.{take, drop, refl, sym, ap, ◌∙◌, arith, None, Some, leb, length-drop, length-append}
+use Rattle.std.proofs.Common.{append_assoc}
 use Rattle.std.specs.Prelude.{codes, decimal, ◌&&◌, nat_le, nat_lt, if◌then◌else◌, Option, is_some, unwrap_or}
 use Rattle.std.specs.Option.{option_map}
 use Rattle.std.proofs.Math.Bool.{and-false}
@@ -9,11 +11,13 @@ use Rattle.std.proofs.lemmas.Grind.{common_steps}
 use Rattle.std.proofs.lemmas.Bool.{le-leb, lt-ltb, le-ltb, leb-true, true≢false}
 use Rattle.zone_spec.specs.declared.Time.{Time}
 use Rattle.zone_spec.specs.declared.TimeLine.{TimeLine}
-use Rattle.zone_spec.specs.TimeLines.{digits_of, number_of, begins_with, line_with, line_ending, line_text, six_digits, read_line}
+use Rattle.zone_spec.specs.TimeLines.{digits_of, number_of, begins_with, line_with, line_ending, line_text, six_digits}
+use Rattle.zone_spec.specs.TimeLines.{read_line}
 use Rattle.dump_records.specs.declared.Number.{Number}
 use Rattle.dump_records.specs.declared.Ending.{Ending}
 use Rattle.dump_records.specs.Parts.{number_at, number_up_to, ending_at}
-use Rattle.dump_records.proofs.Decimals.{IsNumber, IsSix, decimal-IsNumber, six_digits-IsSix, digits_of-digits, secs-short}
+use Rattle.dump_records.proofs.Decimals.{IsNumber, IsSix, decimal-IsNumber, six_digits-IsSix, digits_of-digits}
+use Rattle.dump_records.proofs.Decimals.{secs-short}
 
 -- the digits of the seconds, and those of the microseconds
 abbrev pub secs_of : List ℕ → List ℕ

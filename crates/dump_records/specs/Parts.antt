@@ -1,5 +1,6 @@
 -- The parts of a time line as they are read: a number, and what ends the line.
-use Rattle.std.specs.Prelude.{ℕ, true, false, ◌&&◌, nat_le, if◌then◌else◌, List, [], ◌∷◌, ◌++◌, length, codes, Option, Some, None}
+use Rattle.std.specs.Prelude.{ℕ, true, false, ◌&&◌, nat_le, if◌then◌else◌, List, [], ◌∷◌, ◌++◌, length, codes, Option}
+use Rattle.std.specs.Prelude.{Some, None}
 use Rattle.zone_spec.specs.TimeLines.{digits_of, number_of, begins_with}
 use Rattle.dump_records.specs.declared.Number.{Number}
 use Rattle.dump_records.specs.declared.Ending.{Ending}

@@ -1,5 +1,6 @@
 -- Pages looked at one after another. For `look_at_all`.
-use Rattle.std.proofs.Common.{◌≡◌, ℕ, suc, ◌+◌, ◌<◌, ◌≤◌, List, [], ◌∷◌, length, drop, IfSome, Option, Some, None, refl, sym, ap, ◌∙◌, subst, drop-cons, get_or, add-one}
+use Rattle.std.proofs.Common.{◌≡◌, ℕ, suc, ◌+◌, ◌<◌, ◌≤◌, List, [], ◌∷◌, length, drop, IfSome, Option, Some, None, refl}
+use Rattle.std.proofs.Common.{sym, ap, ◌∙◌, subst, drop-cons, get_or, add-one}
 use Rattle.std.proofs.lemmas.List.{drop_all}
 use Rattle.layout_spec.specs.declared.Known.{Known}
 use Rattle.found_regions.specs.declared.search.Finding.{Finding}

@@ -1,5 +1,6 @@
 -- The pages of a memory at which a region is looked for, one after another
-use Rattle.std.specs.Prelude.{◌≡◌, ℕ, ◌+◌, ◌*◌, ◌-◌, ◌^◌, min, Bool, true, false, ◌||◌, nat_lt, nat_le, List, [], ◌∷◌, ◌++◌, Option, Some, None}
+use Rattle.std.specs.Prelude.{◌≡◌, ℕ, ◌+◌, ◌*◌, ◌-◌, ◌^◌, min, Bool, true, false, ◌||◌, nat_lt, nat_le, List, [], ◌∷◌}
+use Rattle.std.specs.Prelude.{◌++◌, Option, Some, None}
 use Rattle.layout_spec.specs.declared.Known.{Known}
 use Rattle.found_regions.specs.declared.region.Region.{Region}
 use Rattle.found_regions.specs.declared.search.Finding.{Finding}

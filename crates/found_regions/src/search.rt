@@ -2,7 +2,8 @@
 ghost use Rattle.std.specs.Prelude.{◌≡◌, ◌+◌, ◌≤◌, ◌<◌, nat_le, IfOk, IfErr, IfSome, OnOk};
 ghost use Rattle.memory_spec.specs.Pages.{marked};
 ghost use Rattle.memory_regions.specs.Faults.{IsUnread};
-ghost use Rattle.found_regions.specs.Search.{Seen, nothing_seen, place_of, with_finding, with_region, without_rest, is_passed, is_spent, IsStep, AreFindings};
+ghost use Rattle.found_regions.specs.Search.{Seen, nothing_seen, place_of, with_finding, with_region, without_rest};
+ghost use Rattle.found_regions.specs.Search.{is_passed, is_spent, IsStep, AreFindings};
 
 use crate::region::{Region, region_at};
 use layout_search::Known;

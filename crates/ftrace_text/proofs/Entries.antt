@@ -4,7 +4,7 @@ use Rattle.std.proofs.lemmas.Nat.{from_le_bytes-to_le_bytes_8}
 use Rattle.zone_spec.specs.Ftrace.{entry_time}
 use Rattle.ftrace_zone.specs.declared.Entry.{Entry}
 use Rattle.ftrace_zone.specs.EntryBytes.{entry_bytes}
-use Rattle.trace_spec.specs.Lines.{word_of, line_by, line_text}
+use Rattle.ftrace_spec.specs.Lines.{word_of, line_by, line_text}
 
 pub map-append : {X Y : Type 0} (f : X → Y) (xs ys : List X) → map f (xs ++ ys) ≡ map f xs ++ map f ys
 map-append f [] ys = refl

@@ -1,7 +1,7 @@
 // Numbers in hexadecimal.
 ghost use Rattle.std.specs.Prelude.{◌≡◌, ◌++◌, ◌<◌, ◌≤◌, ◌==◌, length, OnOk};
 ghost use Rattle.std.specs.List.{prefix_len};
-ghost use Rattle.trace_spec.specs.Lines.{digit as digit_of, sixteen as sixteen_of, hexadecimal as hexadecimal_of};
+ghost use Rattle.ftrace_spec.specs.Lines.{digit as digit_of, sixteen as sixteen_of, hexadecimal as hexadecimal_of};
 
 use std::alloc::AllocError;
 
@@ -14,7 +14,7 @@ fn digit(n: u64, unit: u64) -> u8
 }
 
 /// The sixteen digits of a number.
-#[tactic(auto, unfolding(trace_spec::specs::Lines::sixteen))]
+#[tactic(auto, unfolding(ftrace_spec::specs::Lines::sixteen))]
 fn sixteen(n: u64) -> [u8; 16]
     ensures { result ≡ sixteen_of n }
 {
@@ -51,7 +51,7 @@ fn zeros(digits: &[u8]) -> usize
 }
 
 /// Appends a number in hexadecimal, with at least so many digits.
-#[tactic(auto, unfolding(trace_spec::specs::Lines::hexadecimal))]
+#[tactic(auto, unfolding(ftrace_spec::specs::Lines::hexadecimal))]
 pub fn push_hexadecimal(out: &mut Vec<u8>, least: usize, n: u64) -> Result<(), AllocError>
     requires { least ≤ 16 }
     ensures { OnOk result (out.new.items ≡ out.old.items ++ hexadecimal_of least n) }

@@ -1,6 +1,7 @@
 // The lines.
 ghost use Rattle.std.specs.Prelude.{◌≡◌, ◌++◌, ◌/◌, ◌%◌, decimal, map, flat_map, IfOk, OnOk};
-ghost use Rattle.trace_spec.specs.Lines.{bare_text, function_text, offset_text, place_text, head_by, line_by, line_text, trace_text as text_of};
+ghost use Rattle.ftrace_spec.specs.Lines.{bare_text, function_text, offset_text, place_text, head_by, line_by};
+ghost use Rattle.ftrace_spec.specs.Lines.{line_text, trace_text as text_of};
 ghost use Rattle.symbol_spec.specs.Functions.{function_of};
 ghost use Rattle.ftrace_zone.specs.EntryBytes.{entry_bytes};
 
@@ -24,7 +25,7 @@ fn push_decimal(out: &mut Vec<u8>, n: u64) -> Result<(), AllocError>
 }
 
 /// Appends the function of an address, or the address.
-#[tactic(auto, unfolding(trace_spec::specs::Lines::function_text))]
+#[tactic(auto, unfolding(ftrace_spec::specs::Lines::function_text))]
 fn push_function(out: &mut Vec<u8>, symbols: &Symbols, address: u64) -> Result<(), AllocError>
     ensures { OnOk result (out.new.items ≡ out.old.items ++ function_text symbols.now address) }
 {
@@ -49,7 +50,7 @@ fn push_offset(out: &mut Vec<u8>, symbols: &Symbols, address: u64) -> Result<(),
     }
 }
 
-#[tactic(auto, unfolding(trace_spec::specs::Lines::place_text))]
+#[tactic(auto, unfolding(ftrace_spec::specs::Lines::place_text))]
 fn push_place(out: &mut Vec<u8>, symbols: &Symbols, address: u64) -> Result<(), AllocError>
     ensures { OnOk result (out.new.items ≡ out.old.items ++ place_text symbols.now address) }
 {
@@ -57,7 +58,7 @@ fn push_place(out: &mut Vec<u8>, symbols: &Symbols, address: u64) -> Result<(), 
     push_offset(out, symbols, address)
 }
 
-#[tactic(auto, unfolding(trace_spec::specs::Lines::head_by))]
+#[tactic(auto, unfolding(ftrace_spec::specs::Lines::head_by))]
 fn push_head(
     out: &mut Vec<u8>,
     address: u64,
@@ -113,7 +114,7 @@ fn lines_of(alloc: Global, symbols: &Symbols, entries: &[Entry]) -> Result<Vec<u
 
 /// The lines of the entries of a log, with the functions of a map. An address that is of no function of the map is
 /// shown in its place. Takes time linear in the log.
-#[tactic(auto, unfolding(trace_spec::specs::Lines::trace_text))]
+#[tactic(auto, unfolding(ftrace_spec::specs::Lines::trace_text))]
 pub fn trace_text(alloc: Global, log: &[u8], symbols: &Symbols) -> Result<Vec<u8>, AllocError>
     ensures { IfOk result (λ text. text.items ≡ text_of symbols.now log.now) }
 {

@@ -1,5 +1,6 @@
 -- Groups of 24 bytes, one after another
-use Rattle.std.proofs.Common.{◌≡◌, ℕ, zero, suc, ◌+◌, ◌*◌, List, [], ◌∷◌, ◌++◌, take, drop, map, refl, sym, ap, ap₂, ◌∙◌, arith, add-one}
+use Rattle.std.proofs.Common.{◌≡◌, ℕ, zero, suc, ◌+◌, ◌*◌, List, [], ◌∷◌, ◌++◌, take, drop, map, refl, sym, ap, ap₂}
+use Rattle.std.proofs.Common.{◌∙◌, arith, add-one}
 use Rattle.std.proofs.lemmas.List.{drop-drop, map-append}
 use Rattle.zone_spec.specs.Ftrace.{groups}
 use Rattle.ftrace_zone.specs.declared.Entry.{Entry}

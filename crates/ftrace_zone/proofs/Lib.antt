@@ -2,4 +2,4 @@
 -- them.
 pub mod Words
 pub mod Groups
-pub mod Merging
+pub mod MergeSteps

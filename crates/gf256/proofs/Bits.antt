@@ -1,5 +1,6 @@
 -- The product by the bits of one factor is the sum of the multiples by its bits
-use Rattle.std.proofs.Common.{◌≡◌, ◌≢◌, ℕ, ◌+◌, ◌<◌, eqb, Bool, true, false, cond, refl, sym, ap, ap₂, ◌∙◌, get_or, ◌⊎◌, inl, inr, bit_and}
+use Rattle.std.proofs.Common.{◌≡◌, ◌≢◌, ℕ, ◌+◌, ◌<◌, eqb, Bool, true, false, cond, refl, sym, ap, ap₂, ◌∙◌, get_or, ◌⊎◌}
+use Rattle.std.proofs.Common.{inl, inr, bit_and}
 use Rattle.std.proofs.lemmas.Bool.Decides.{eqb_tells, Decides-eqb}
 use Rattle.code_spec.specs.Field.{gf_add, gf_mul, gf_pow}
 use Rattle.gf256.specs.declared.TheConstants.{POWERS}

@@ -1,5 +1,7 @@
 -- The tables hold the powers of 2 and the logarithms, and lead every product with 0 to 0
-use Rattle.std.proofs.Common.{◌≡◌, ◌≢◌, ℕ, zero, suc, ◌+◌, ◌≤◌, ◌<◌, refl, sym, ap, ◌∙◌, arith, Bool, true, ◌&&◌, eqb, ltb, List, [], ◌∷◌, length, get_or, take, drop, replicate, get_or-take, get_or-drop, zero-add}
+use Rattle.std.proofs.Common.{◌≡◌, ◌≢◌, ℕ, zero, suc, ◌+◌, ◌≤◌, ◌<◌, refl, sym, ap, ◌∙◌, arith, Bool, true, ◌&&◌, eqb}
+use Rattle.std.proofs.Common.{ltb, List, [], ◌∷◌, length, get_or, take, drop, replicate, get_or-take, get_or-drop}
+use Rattle.std.proofs.Common.{zero-add}
 use Rattle.std.proofs.lemmas.Bool.Decides.{Decides-eqb, Decides-ltb}
 use Rattle.std.proofs.lemmas.Bool.{and_parts}
 use Rattle.list_laws.proofs.Elements.{get_or-replicate_default}

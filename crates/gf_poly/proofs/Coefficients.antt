@@ -1,10 +1,13 @@
 -- What one step of a product or of a division does to the polynomials. For `product`, `divide_step` and `divide`.
-use Rattle.std.proofs.Common.{◌≡◌, ℕ, zero, suc, ◌+◌, ◌<◌, refl, sym, ap, ap₂, ◌∙◌, arith, List, [], ◌∷◌, ◌++◌, length, get_or, take, drop, take-append-drop, ext_get_or, length-take-le, get_or-take, get_or-drop, length-drop, take_at, remove}
+use Rattle.std.proofs.Common.{◌≡◌, ℕ, zero, suc, ◌+◌, ◌<◌, refl, sym, ap, ap₂, ◌∙◌, arith, List, [], ◌∷◌, ◌++◌, length}
+use Rattle.std.proofs.Common.{get_or, take, drop, take-append-drop, ext_get_or, length-take-le, get_or-take}
+use Rattle.std.proofs.Common.{get_or-drop, length-drop, take_at, remove}
 use Rattle.code_spec.specs.Field.{gf_add, gf_mul}
 use Rattle.code_laws.proofs.Ring.{zero_add}
 use Rattle.decoder_laws.specs.Series.{cons, plus, scale, times}
 use Rattle.decoder_laws.specs.Polynomials.{poly}
-use Rattle.decoder_laws.proofs.Series.{times-none, plus-none_left, times-cons, times_comm, plus_assoc, plus_comm, plus_left_comm, plus_self}
+use Rattle.decoder_laws.proofs.Series.{times-none, plus-none_left, times-cons, times_comm, plus_assoc, plus_comm}
+use Rattle.decoder_laws.proofs.Series.{plus_left_comm, plus_self}
 use Rattle.decoder_laws.proofs.Polynomials.{poly-nil, poly-push, poly-added, poly-leading_zero}
 
 -- one more coefficient of the first factor

@@ -2,7 +2,8 @@
 use Rattle.std.specs.Prelude.{ℕ, Bool, List, [], ◌∷◌, Option, Some, None}
 use Rattle.zone_spec.specs.declared.ZoneName.{ZoneName}
 use Rattle.zone_spec.specs.declared.Time.{Time}
-use Rattle.grammar_spec.specs.Fields.{Text, ◌>>=◌, number, secs, micros, ring, zone, payload, message, some_bytes, flag, name}
+use Rattle.grammar_spec.specs.Fields.{Text, ◌>>=◌, number, secs, micros, ring, zone, payload, message, some_bytes, flag}
+use Rattle.grammar_spec.specs.Fields.{name}
 
 -- exactly so many fields
 abbrev pub one : List Text → Option Text

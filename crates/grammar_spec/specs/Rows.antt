@@ -1,9 +1,13 @@
 -- The lines of the table, each by its word and the fields behind it
 use Rattle.std.specs.Prelude.{if◌then◌else◌, List, [], ◌∷◌, codes, bytes_eq, Option, Some, None}
 use Rattle.grammar_spec.specs.declared.line.Line.{Line}
-use Rattle.grammar_spec.specs.declared.line.Line.TheVariants.{Write, Dump, BeginWrite, BeginErase, BeginDump, Step, Finish, Stop, Flip, Boot, BootPart, List as ListLine, Extract, Erase, KDump, CutAfter, KMsg, Crash, Reserve, StoreNext}
+use Rattle.grammar_spec.specs.declared.line.Line.TheVariants.{Write, Dump, BeginWrite, BeginErase, BeginDump, Step}
+use Rattle.grammar_spec.specs.declared.line.Line.TheVariants.{Finish, Stop, Flip, Boot, BootPart, List as ListLine}
+use Rattle.grammar_spec.specs.declared.line.Line.TheVariants.{Extract, Erase, KDump, CutAfter, KMsg, Crash, Reserve}
+use Rattle.grammar_spec.specs.declared.line.Line.TheVariants.{StoreNext}
 use Rattle.grammar_spec.specs.Fields.{Text, ◌>>=◌, number, mask, secs, micros, nanos, zone, payload, flag, reason}
-use Rattle.grammar_spec.specs.Groups.{two, three, five, ring_hex, time_flag_hex, one_zone, one_number, one_name, one_message, one_some_bytes}
+use Rattle.grammar_spec.specs.Groups.{two, three, five, ring_hex, time_flag_hex, one_zone, one_number, one_name}
+use Rattle.grammar_spec.specs.Groups.{one_message, one_some_bytes}
 
 -- `step ZONE K`
 unfoldable pub step_line : List Text → Option Line

@@ -1,5 +1,7 @@
 -- A session, a stop, flips and a boot
-use Rattle.std.proofs.Common.{◌≡◌, ℕ, zero, suc, Bool, true, false, cond, nat_lt, nat_le, ◌≤◌, true≢false, get_or, arith, List, [], ◌∷◌, ◌++◌, map, length, slice_get, refl, sym, ap, ◌∙◌, subst, Some, None, Ok, Err}
+use Rattle.std.proofs.Common.{◌≡◌, ℕ, zero, suc, Bool, true, false, cond, nat_lt, nat_le, ◌≤◌, true≢false, get_or}
+use Rattle.std.proofs.Common.{arith, List, [], ◌∷◌, ◌++◌, map, length, slice_get, refl, sym, ap, ◌∙◌, subst, Some, None}
+use Rattle.std.proofs.Common.{Ok, Err}
 use Rattle.std.specs.Prelude.{zip}
 use Rattle.std.specs.Option.{option_map}
 use Rattle.std.specs.List.{AllByRecursion}
@@ -16,15 +18,17 @@ use Rattle.machine_spec.specs.States.{OffZone, OffState, LiveState, Session, Off
 use Rattle.machine_spec.specs.Off.{fresh, flipped}
 use Rattle.machine_spec.specs.Stop.{zone_stopped, stopped}
 use Rattle.machine_spec.specs.Boot.{booted}
-use Rattle.machine_spec.specs.BootPart.{boot_count, is_finished, left_at, zone_finished, zone_cut, zone_parted, boot_parted}
-use Rattle.machine_spec.specs.Operations.{Operation, Flip, Boot, BootPart, Begin, Make, Step, Finish, EraseRecord, Stop, Refused, operated, left_by, session_after}
+use Rattle.machine_spec.specs.BootPart.{boot_count, is_finished, left_at, zone_finished, zone_cut, zone_parted}
+use Rattle.machine_spec.specs.BootPart.{boot_parted}
+use Rattle.machine_spec.specs.Operations.{Operation, Flip, Boot, BootPart, Begin, Make, Step, Finish, EraseRecord, Stop}
+use Rattle.machine_spec.specs.Operations.{Refused, operated, left_by, session_after}
 use Rattle.machine_spec.specs.Sound.{IsState, IsOperation, IsReached}
 use Rattle.machine_laws.proofs.Lists.{length-parted}
 use Rattle.machine_laws.proofs.OffStates.{stopped-state}
 use Rattle.machine_laws.proofs.CutBoot.{new_zone}
 use Rattle.machine_laws.proofs.Operations.{states_are_sound}
 use Rattle.history_laws.specs.Laws.{TellsWritten, LeavesZone, AllLeaveZone, NextBootReadsWritten}
-use Rattle.history_laws.proofs.Told.{told_is_written, state_reads_written}
+use Rattle.history_laws.proofs.WrittenLogs.{told_is_written, state_reads_written}
 
 get-zip : {X Y W : Type 0} (f : X × Y → W) (xs : List X) (ys : List Y) (i : ℕ) (x : X) (y : Y) → slice_get xs i ≡ Some x
     → slice_get ys i ≡ Some y → slice_get (map f (zip xs ys)) i ≡ Some (f (x, y))

@@ -1,5 +1,7 @@
 -- Each operation of a live state leaves a zone told the last bytes written to it
-use Rattle.std.proofs.Common.{◌≡◌, ℕ, ◌≤◌, Bool, true, false, cond, ◌&&◌, ◌||◌, ◌==◌, is_some, List, [], ◌∷◌, length, slice_get, set, refl, sym, ap, ◌∙◌, subst, zero, suc, inl, inr, Option, Some, None, Result, Ok, Err, eq-eqb}
+use Rattle.std.proofs.Common.{◌≡◌, ℕ, ◌≤◌, Bool, true, false, cond, ◌&&◌, ◌||◌, ◌==◌, is_some, List, [], ◌∷◌, length}
+use Rattle.std.proofs.Common.{slice_get, set, refl, sym, ap, ◌∙◌, subst, zero, suc, inl, inr, Option, Some, None}
+use Rattle.std.proofs.Common.{Result, Ok, Err, eq-eqb}
 use Rattle.std.specs.Option.{option_map, option_map_or, option_and_then}
 use Rattle.std.proofs.lemmas.Bool.{ne_eqb}
 use Rattle.zone_spec.specs.declared.Zone.{Zone}
@@ -12,7 +14,9 @@ use Rattle.zone_spec.specs.Layouts.{IsLayout, zone_place}
 use Rattle.machine_spec.specs.States.{Flight, LiveZone, LiveState, Live}
 use Rattle.machine_spec.specs.ZoneCalls.{begun, finished}
 use Rattle.machine_spec.specs.LiveZones.{Target, target, target_at, target_of, flies, changed}
-use Rattle.machine_spec.specs.LiveCalls.{Ask, Append as AskAppend, Erase as AskErase, Dump as AskDump, call_of, asked_name, asked_zone, is_barred, begins, begin, goes_on, finish_at, and_finish, make}
+use Rattle.machine_spec.specs.LiveCalls.{Ask, Append as AskAppend, Erase as AskErase, Dump as AskDump, call_of}
+use Rattle.machine_spec.specs.LiveCalls.{asked_name, asked_zone, is_barred, begins, begin, goes_on, finish_at}
+use Rattle.machine_spec.specs.LiveCalls.{and_finish, make}
 use Rattle.machine_spec.specs.Erasures.{erase_zone, erased}
 use Rattle.machine_spec.specs.Sound.{IsState}
 use Rattle.machine_laws.proofs.Lists.{get-set, get-zip-map, none_any}

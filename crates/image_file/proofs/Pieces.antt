@@ -1,5 +1,7 @@
 -- An image that is read and written in pieces.
-use Rattle.std.proofs.Common.{◌≡◌, ◌⊎◌, inl, inr, replicate, ℕ, ◌+◌, ◌≤◌, List, [], ◌++◌, length, take, drop, arith, Option, Some, None, IfSome, Result, Ok, Err, OnOk, length-append, zero-add, sym, ◌∙◌, refl}
+use Rattle.std.proofs.Common.{◌≡◌, ◌⊎◌, inl, inr, replicate, ℕ, ◌+◌, ◌≤◌, List, [], ◌++◌, length, take, drop, arith}
+use Rattle.std.proofs.Common.{Option, Some, None, IfSome, Result, Ok, Err, OnOk, length-append, zero-add, sym, ◌∙◌}
+use Rattle.std.proofs.Common.{refl}
 use borrow.Rule.Slice.PartMut.{put_mid}
 use Rattle.std.proofs.lemmas.Slice.{take-put_mid}
 use Rattle.std.proofs.lemmas.List.{take-replicate, replicate-append-replicate, length-replicate}

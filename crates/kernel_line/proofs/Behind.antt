@@ -1,5 +1,6 @@
 -- Words one after another: the last value, and the first size. For `last_value` and `reserved_as`.
-use Rattle.std.proofs.Common.{◌≡◌, ℕ, ◌+◌, ◌<◌, ◌≤◌, suc, List, [], ◌∷◌, length, drop, codes, Option, Some, None, refl, sym, ap, ◌∙◌, drop-cons, get_or, add-one, Bor}
+use Rattle.std.proofs.Common.{◌≡◌, ℕ, ◌+◌, ◌<◌, ◌≤◌, suc, List, [], ◌∷◌, length, drop, codes, Option, Some, None, refl}
+use Rattle.std.proofs.Common.{sym, ap, ◌∙◌, drop-cons, get_or, add-one, Bor}
 use Rattle.std.proofs.lemmas.List.{drop_all}
 use Rattle.std.specs.Option.{option_or, option_and_then, option_copied}
 use Rattle.kernel_line.specs.Region.{value_behind, last_value, size_named, reserved_as}

@@ -2,7 +2,7 @@
 -- `address` and `reserved_size` cite them, with the law on white space.
 mod Lines
 mod Plain
-mod Adding
+mod WordLoop
 mod Among
 pub mod Places
 mod Digits

@@ -1,7 +1,10 @@
 -- The words of a kernel's command line (lib/cmdline.c, next_arg; kernel/params.c, parse_args), and of these the ones
 -- that say how ramoops lays its memory out (fs/pstore/ram.c, module_param)
-use Rattle.std.specs.Prelude.{◌≡◌, ℕ, ◌+◌, ◌-◌, ◌%◌, Bool, true, false, not, ◌&&◌, ◌||◌, ◌==◌, nat_eq, nat_le, if◌then◌else◌, List, [], ◌∷◌, ◌++◌, length, take, drop, map, remove, count_by, codes, bytes_eq, IsUtf8, ⊤}
-use Rattle.std.specs.List.{filter, list_any, ends_with, onto_first, take_while, before_first, after_first, position_or_len}
+use Rattle.std.specs.Prelude.{◌≡◌, ℕ, ◌+◌, ◌-◌, ◌%◌, Bool, true, false, not, ◌&&◌, ◌||◌, ◌==◌, nat_eq, nat_le}
+use Rattle.std.specs.Prelude.{if◌then◌else◌, List, [], ◌∷◌, ◌++◌, length, take, drop, map, remove, count_by, codes}
+use Rattle.std.specs.Prelude.{bytes_eq, IsUtf8, ⊤}
+use Rattle.std.specs.List.{filter, list_any, ends_with, onto_first, take_while, before_first, after_first}
+use Rattle.std.specs.List.{position_or_len}
 use Rattle.grammar_spec.specs.Numbers.{begins}
 use Rattle.kernel_line.specs.declared.words.LineFault.{LineFault}
 use Rattle.kernel_line.specs.declared.words.LineFault.TheVariants.{Memory, OpenQuote, NoText}

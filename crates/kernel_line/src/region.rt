@@ -2,7 +2,8 @@
 ghost use Rattle.std.specs.Prelude.{◌≡◌, ◌≤◌, length, codes};
 ghost use Rattle.std.specs.Option.{option_copied, option_and_then};
 ghost use Rattle.std.specs.List.{after_first, position, position_or_len};
-ghost use Rattle.kernel_line.specs.Region.{value_behind, last_value, long_digits, long_number, address_in, unit_of, bytes_of, size_in, is_colon, size_named, reserved_as, reserved_in};
+ghost use Rattle.kernel_line.specs.Region.{value_behind, last_value, long_digits, long_number, address_in, unit_of};
+ghost use Rattle.kernel_line.specs.Region.{bytes_of, size_in, is_colon, size_named, reserved_as, reserved_in};
 
 use outside::Bytes;
 

@@ -1,7 +1,10 @@
 // The words of a kernel's command line.
-ghost use Rattle.std.specs.Prelude.{◌≡◌, ◌+◌, ◌≤◌, ◌<◌, ◌==◌, true, false, if◌then◌else◌, [], ◌∷◌, ◌++◌, length, take, drop, codes, bytes_eq, IfOk, IfErr, OnOk};
+ghost use Rattle.std.specs.Prelude.{◌≡◌, ◌+◌, ◌≤◌, ◌<◌, ◌==◌, true, false, if◌then◌else◌, [], ◌∷◌, ◌++◌, length, take};
+ghost use Rattle.std.specs.Prelude.{drop, codes, bytes_eq, IfOk, IfErr, OnOk};
 ghost use Rattle.std.specs.List.{after_first, position, position_or_len};
-ghost use Rattle.kernel_line.specs.Line.{is_white, is_quote, is_equals, words_from, is_closed, is_quoted, without_last_quote, body_of, opened, unquoted, underscored, line_words, IsUnread};
+ghost use Rattle.kernel_line.specs.Line.{is_white, is_quote, is_equals, words_from, is_closed, is_quoted};
+ghost use Rattle.kernel_line.specs.Line.{without_last_quote, body_of, opened, unquoted, underscored, line_words};
+ghost use Rattle.kernel_line.specs.Line.{IsUnread};
 
 use outside::Bytes;
 use std::alloc::{AllocError, Global};

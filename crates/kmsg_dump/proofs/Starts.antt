@@ -1,5 +1,6 @@
 -- The bytes from the first start of a line on are those of the last lines that fit
-use Rattle.std.proofs.Common.{◌≡◌, ℕ, zero, suc, ◌+◌, ◌-◌, ◌<◌, ◌≤◌, inl, inr, List, [], ◌∷◌, ◌++◌, length, drop, get_or, All, refl, ap, sym, ◌∙◌, arith, append_assoc}
+use Rattle.std.proofs.Common.{◌≡◌, ℕ, zero, suc, ◌+◌, ◌-◌, ◌<◌, ◌≤◌, inl, inr, List, [], ◌∷◌, ◌++◌, length, drop}
+use Rattle.std.proofs.Common.{get_or, All, refl, ap, sym, ◌∙◌, arith, append_assoc}
 use Rattle.std.proofs.lemmas.List.{length-append, get_or-append-add}
 use Rattle.std.proofs.Math.ListN.{get_or-append}
 use Rattle.std.proofs.Math.Seq.{get_or-append_seam, drop-append_seam, drop-append-add}
@@ -8,7 +9,7 @@ use Rattle.std.proofs.lemmas.Bool.Decides.{leb_tells}
 use Rattle.kmsg_spec.specs.Bodies.{newline, ended, bytes_of, last_lines}
 use Rattle.kmsg_dump.specs.Kept.{IsLine}
 use Rattle.kmsg_dump.specs.Starts.{IsStart, IsFirstStart}
-use Rattle.kmsg_dump.proofs.Last.{all_fit, behind_first, none_of_none}
+use Rattle.kmsg_dump.proofs.LastLines.{all_fit, behind_first, none_of_none}
 
 -- from the front on the first start is the front
 pub at_front : (bytes : List ℕ) (p : ℕ) → IsFirstStart bytes 0 p → p ≡ 0

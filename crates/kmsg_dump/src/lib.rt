@@ -2,7 +2,8 @@
 //! (`fs/pstore/platform.c`, `pstore_dump`).
 #![tactic(auto)]
 
-ghost use Rattle.std.specs.Prelude.{◌≡◌, ◌+◌, ◌-◌, ◌<◌, ◌≤◌, nat_le, true, false, ℕ, List, [], ◌∷◌, ◌++◌, length, drop, Some, IfOk};
+ghost use Rattle.std.specs.Prelude.{◌≡◌, ◌+◌, ◌-◌, ◌<◌, ◌≤◌, nat_le, true, false, ℕ, List, [], ◌∷◌, ◌++◌, length, drop};
+ghost use Rattle.std.specs.Prelude.{Some, IfOk};
 ghost use Rattle.circular_buffer.specs.Buffer.{buffer};
 ghost use Rattle.memchr.specs.Find.{IsFirst, Passes, is_byte};
 ghost use Rattle.kmsg_spec.specs.Bodies.{newline, bytes_of, heading, last_lines, body as body_of};

@@ -1,5 +1,6 @@
 -- The body of a crash dump: a heading, and the last lines of the message log that fit
-use Rattle.std.specs.Prelude.{◌≡◌, ℕ, ◌-◌, ◌≤◌, nat_le, if◌then◌else◌, List, [], ◌∷◌, ◌++◌, length, take, flat_map, codes, decimal}
+use Rattle.std.specs.Prelude.{◌≡◌, ℕ, ◌-◌, ◌≤◌, nat_le, if◌then◌else◌, List, [], ◌∷◌, ◌++◌, length, take, flat_map}
+use Rattle.std.specs.Prelude.{codes, decimal}
 use Rattle.kmsg_spec.specs.declared.Reason.{Reason}
 use Rattle.kmsg_spec.specs.Reasons.{reason_number, reason_word}
 

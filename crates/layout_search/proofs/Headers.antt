@@ -1,5 +1,6 @@
 -- What the header of a zone says, by the tests that it passes
-use Rattle.std.proofs.Common.{◌≡◌, ℕ, ◌≤◌, Bool, true, false, not, ◌&&◌, ◌||◌, if◌then◌else◌, ◌==◌, nat_lt, List, refl, sym, ap, ◌∙◌}
+use Rattle.std.proofs.Common.{◌≡◌, ℕ, ◌≤◌, Bool, true, false, not, ◌&&◌, ◌||◌, if◌then◌else◌, ◌==◌, nat_lt, List, refl}
+use Rattle.std.proofs.Common.{sym, ap, ◌∙◌}
 use Rattle.std.proofs.lemmas.Bool.{or_parts, ltb-false}
 use Rattle.zone_spec.specs.declared.Zone.{Zone}
 use Rattle.zone_spec.specs.declared.Words.{Words}
@@ -7,7 +8,8 @@ use Rattle.zone_spec.specs.declared.State.{State}
 use Rattle.zone_spec.specs.declared.State.TheVariants.{Unsigned, Empty, Invalid, Found}
 use Rattle.zone_spec.specs.Reading.{state_of}
 use Rattle.zone_spec.specs.TimeLines.{has_line}
-use Rattle.layout_spec.specs.Marks.{is_mark, fits, has_log, is_odd, is_readable, header_of, words_of, state_in, is_ring_or_empty, is_found, is_odd_log, log_front}
+use Rattle.layout_spec.specs.Marks.{is_mark, fits, has_log, is_odd, is_readable, header_of, zone_words, state_in}
+use Rattle.layout_spec.specs.Marks.{is_ring_or_empty, is_found, is_odd_log, log_front}
 use Rattle.layout_search.specs.Looks.{IsLook, IsHeader}
 use Rattle.layout_search.specs.declared.looking.Header.{Header}
 
@@ -23,7 +25,7 @@ state_by own empty invalid =
     if not own then Unsigned else (if empty then Empty else (if invalid then Invalid else Found))
 
 -- the state that the words of a header make
-state_is : (image : List ℕ) (z : Zone) (w : Words) → w ≡ words_of image z
+state_is : (image : List ℕ) (z : Zone) (w : Words) → w ≡ zone_words image z
     → state_in image z ≡ state_by (w.sig == z.sig) (is_empty w) (is_invalid z w)
 state_is image z w e = ap (λ (v : Words). state_of z v) (sym e)
 
@@ -34,7 +36,7 @@ misfit image z marked m f = record {
   fits_is = sym f;
   found = sym (ap (λ b. b && is_found (state_in image z)) f);
   odd = sym (ap (λ b. (b && is_found (state_in image z))
-      && is_odd_log z.name.kind (has_line (log_front image z (words_of image z)))) f);
+      && is_odd_log z.name.kind (has_line (log_front image z (zone_words image z)))) f);
   corrected = sym (ap (λ (b : Bool). if b then (header_of image z).corrected else 0) f);
   marked = m;
 }
@@ -51,24 +53,24 @@ stateless : (image : List ℕ) (z : Zone) → is_ring_or_empty (state_in image z
 unfolding fits
 stateless image z h = ap (λ b. is_readable image z && b) h ∙ and_false (is_readable image z)
 
-pub foreign : (image : List ℕ) (z : Zone) (w : Words) → w ≡ words_of image z → (w.sig == z.sig) ≡ false
+pub foreign : (image : List ℕ) (z : Zone) (w : Words) → w ≡ zone_words image z → (w.sig == z.sig) ≡ false
     → fits image z ≡ false
 foreign image z w e own = stateless image z (ap is_ring_or_empty
     (state_is image z w e ∙ ap (λ b. state_by b (is_empty w) (is_invalid z w)) own))
 
-pub invalid : (image : List ℕ) (z : Zone) (w : Words) → w ≡ words_of image z → (w.sig == z.sig) ≡ true
+pub invalid : (image : List ℕ) (z : Zone) (w : Words) → w ≡ zone_words image z → (w.sig == z.sig) ≡ true
     → is_empty w ≡ false → is_invalid z w ≡ true → fits image z ≡ false
 invalid image z w e own empty bad = stateless image z (ap is_ring_or_empty
     (state_is image z w e ∙ ap (λ b. state_by b (is_empty w) (is_invalid z w)) own
     ∙ ap (λ b. state_by true b (is_invalid z w)) empty ∙ ap (λ b. state_by true false b) bad))
 
-empty_state : (image : List ℕ) (z : Zone) (w : Words) → w ≡ words_of image z → (w.sig == z.sig) ≡ true
+empty_state : (image : List ℕ) (z : Zone) (w : Words) → w ≡ zone_words image z → (w.sig == z.sig) ≡ true
     → is_empty w ≡ true → state_in image z ≡ Empty
 empty_state image z w e own empty =
     state_is image z w e ∙ ap (λ b. state_by b (is_empty w) (is_invalid z w)) own
     ∙ ap (λ b. state_by true b (is_invalid z w)) empty
 
-found_state : (image : List ℕ) (z : Zone) (w : Words) → w ≡ words_of image z → (w.sig == z.sig) ≡ true
+found_state : (image : List ℕ) (z : Zone) (w : Words) → w ≡ zone_words image z → (w.sig == z.sig) ≡ true
     → is_empty w ≡ false → is_invalid z w ≡ false → state_in image z ≡ Found
 found_state image z w e own empty bad =
     state_is image z w e ∙ ap (λ b. state_by b (is_empty w) (is_invalid z w)) own
@@ -90,7 +92,7 @@ fresh image z h marked head m own empty =
     let none : has_log image z ≡ false = ap (λ b. b && is_found (state_in image z)) f ∙ ap is_found s in record {
       fits_is = sym f;
       found = sym none;
-      odd = sym (ap (λ b. b && is_odd_log z.name.kind (has_line (log_front image z (words_of image z)))) none);
+      odd = sym (ap (λ b. b && is_odd_log z.name.kind (has_line (log_front image z (zone_words image z)))) none);
       corrected = head.corrected ∙ sym (ap (λ (b : Bool). if b then (header_of image z).corrected else 0) f);
       marked = m;
     }
@@ -107,7 +109,7 @@ ring image z h marked odd head m own empty bad o =
       fits_is = sym f;
       found = sym log;
       odd = o ∙ ap (λ (w : Words). is_odd_log z.name.kind (has_line (log_front image z w))) head.words
-          ∙ sym (ap (λ b. b && is_odd_log z.name.kind (has_line (log_front image z (words_of image z)))) log);
+          ∙ sym (ap (λ b. b && is_odd_log z.name.kind (has_line (log_front image z (zone_words image z)))) log);
       corrected = head.corrected ∙ sym (ap (λ (b : Bool). if b then (header_of image z).corrected else 0) f);
       marked = m;
     }

@@ -6,9 +6,9 @@ pub mod Sums
 pub mod Keys
 pub mod LaidOut
 pub mod Bounds
-pub mod Refused
-pub mod Inside
-pub mod Ahead
+pub mod CandidateFaults
+pub mod ZonesInImage
+pub mod BestSoFar
 pub mod Tags
 pub mod Members
-pub mod Answered
+pub mod SearchAnswers

@@ -2,7 +2,7 @@
 use Rattle.std.specs.Prelude.{◌≡◌, ℕ, ◌+◌, ◌≤◌, true, false, List, Option, MatchOption, length}
 use Rattle.zone_spec.specs.declared.Zone.{Zone}
 use Rattle.zone_spec.specs.Zones.{IsValidZone}
-use Rattle.layout_spec.specs.Marks.{is_mark, fits, has_log, is_odd, is_readable, header_of, words_of}
+use Rattle.layout_spec.specs.Marks.{is_mark, fits, has_log, is_odd, is_readable, header_of, zone_words}
 use Rattle.layout_spec.specs.Order.{corrected_in}
 use Rattle.layout_spec.specs.Family.{is_tagged, tag_read}
 use Rattle.layout_search.specs.declared.looking.Look.{Look}
@@ -15,7 +15,7 @@ pub record IsInside (image : List ℕ) (z : Zone) : Type 0 where
 
 pub record IsHeader (image : List ℕ) (z : Zone) (h : Header) : Type 0 where
   pub readable : is_readable image z ≡ true
-  pub words : h.words ≡ words_of image z
+  pub words : h.words ≡ zone_words image z
   pub corrected : h.corrected ≡ (header_of image z).corrected
 
 pub record IsLook (image : List ℕ) (z : Zone) (l : Look) : Type 0 where

@@ -2,7 +2,8 @@
 use Rattle.std.specs.Prelude.{◌≡◌, ℕ, Bool, ◌&&◌, nat_le}
 use Rattle.layout_spec.specs.declared.Candidate.{Candidate}
 use Rattle.layout_spec.specs.declared.Known.{Known}
-use Rattle.layout_spec.specs.Family.{is_shape, is_told_once, is_one_of, cpus_for, known_or, memories, sizes, parities, processors}
+use Rattle.layout_spec.specs.Family.{is_shape, is_told_once, is_one_of, cpus_for, known_or, memories, sizes, parities}
+use Rattle.layout_spec.specs.Family.{processors}
 use Rattle.layout_search.specs.declared.lists.Lists.{Lists}
 
 -- its sizes are of the family, told once, and within the file

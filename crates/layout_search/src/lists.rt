@@ -2,7 +2,8 @@
 ghost use Rattle.std.specs.Prelude.{◌≡◌, ◌+◌, ◌-◌, ◌<◌, ◌≤◌, ◌^◌, ◌∷◌, ◌++◌, nat_le, filter, length, IfOk, OnOk};
 ghost use Rattle.std.specs.List.{range_with_len};
 ghost use Rattle.layout_search.specs.Placed.{AreLists};
-ghost use Rattle.layout_spec.specs.Family.{known_or as known_or_all, powers as all_powers, parities as all_parities, processors as all_processors};
+ghost use Rattle.layout_spec.specs.Family.{known_or as known_or_all, powers as all_powers, parities as all_parities};
+ghost use Rattle.layout_spec.specs.Family.{processors as all_processors};
 
 use layout_spec::Known;
 use std::alloc::{AllocError, Global};

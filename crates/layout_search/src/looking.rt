@@ -1,10 +1,12 @@
 // What a zone's header tells.
-ghost use Rattle.std.specs.Prelude.{◌≡◌, ◌+◌, ◌<◌, ◌≤◌, ◌&&◌, ◌||◌, ◌==◌, nat_lt, nat_le, not, false, true, length, slice_index, bit_xor, IfSome, MatchOption};
+ghost use Rattle.std.specs.Prelude.{◌≡◌, ◌+◌, ◌<◌, ◌≤◌, ◌&&◌, ◌||◌, ◌==◌, nat_lt, nat_le, not, false, true, length};
+ghost use Rattle.std.specs.Prelude.{slice_index, bit_xor, IfSome, MatchOption};
 ghost use Rattle.zone_spec.specs.Zones.{IsValidZone};
 ghost use Rattle.zone_spec.specs.TimeLines.{has_line as line_in};
 ghost use Rattle.zone_spec.specs.PartStates.{zone_bytes as bytes_of};
 ghost use Rattle.prz_ecc.specs.Outcomes.{CountsAre};
-ghost use Rattle.layout_spec.specs.Marks.{is_readable, header_of, words_of, state_in, is_ring_or_empty, is_found, log_place, log_front, is_odd_log};
+ghost use Rattle.layout_spec.specs.Marks.{is_readable, header_of, zone_words, state_in, is_ring_or_empty, is_found};
+ghost use Rattle.layout_spec.specs.Marks.{log_place, log_front, is_odd_log};
 ghost use Rattle.layout_spec.specs.Family.{is_ftrace as is_ftrace_kind, is_tag as is_tag_number};
 ghost use Rattle.layout_search.specs.Looks.{IsInside, IsHeader, IsLook, IsTagOf};
 
@@ -42,10 +44,10 @@ fn zone_bytes<'a>(image: &'a [u8], zone: &Zone) -> &'a [u8]
     &image[zone.at as usize..zone.at as usize + zone.size as usize]
 }
 
-#[tactic(auto, unfolding(layout_spec::specs::Marks::header_of, layout_spec::specs::Marks::words_of))]
+#[tactic(auto, unfolding(layout_spec::specs::Marks::header_of, layout_spec::specs::Marks::zone_words))]
 fn reading(image: &[u8], zone: &Zone) -> HeaderReading
     requires { IsInside image.now zone.now }
-    ensures words { result.words ≡ words_of image.now zone.now }
+    ensures words { result.words ≡ zone_words image.now zone.now }
     ensures counts { CountsAre result.outcome (header_of image.now zone.now) }
 {
     let mut fixes: ArrayVec<Fix, 63> = ArrayVec::new();

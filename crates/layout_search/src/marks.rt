@@ -1,6 +1,8 @@
 // Where headers seem to stand.
 ghost use Rattle.std.specs.Prelude.{◌≡◌, ◌+◌, ◌<◌, ◌≤◌, ◌^◌, length, slice_index};
-ghost use Rattle.layout_spec.specs.Marks.{is_mark as is_mark_at, is_tagged_mark as is_tagged_mark_at, seems_to_begin as seems, marks as marks_of, has_zero as has_zero_at, signature_bytes as signature_at};
+ghost use Rattle.layout_spec.specs.Marks.{is_mark as is_mark_at, is_tagged_mark as is_tagged_mark_at};
+ghost use Rattle.layout_spec.specs.Marks.{seems_to_begin as seems, marks as marks_of, has_zero as has_zero_at};
+ghost use Rattle.layout_spec.specs.Marks.{signature_bytes as signature_at};
 
 use zone_spec::Kind;
 

@@ -1,9 +1,11 @@
 // What is compared of two layouts.
-ghost use Rattle.std.specs.Prelude.{◌≡◌, ◌+◌, ◌-◌, ◌*◌, ◌^◌, ◌<◌, ◌||◌, ◌==◌, not, nat_le, [], ◌∷◌, length, if◌then◌else◌};
+ghost use Rattle.std.specs.Prelude.{◌≡◌, ◌+◌, ◌-◌, ◌*◌, ◌^◌, ◌<◌, ◌||◌, ◌==◌, not, nat_le, [], ◌∷◌, length};
+ghost use Rattle.std.specs.Prelude.{if◌then◌else◌};
 ghost use Rattle.std.specs.List.{list_any};
 ghost use Rattle.layout_spec.specs.Laid.{zones_of};
 ghost use Rattle.layout_spec.specs.Marks.{marks as marks_of};
-ghost use Rattle.layout_spec.specs.Order.{is_shown as is_shown_by, most as most_of, different as different_of, tally_of, key_by, is_before as is_before_by};
+ghost use Rattle.layout_spec.specs.Order.{is_shown as is_shown_by, most as most_of, different as different_of};
+ghost use Rattle.layout_spec.specs.Order.{tally_of, key_by, is_before as is_before_by};
 ghost use Rattle.layout_search.specs.Counted.{AreCounts, AreBelow};
 
 use crate::counting::Counts;

@@ -1,5 +1,6 @@
 // Which shapes can have few faults, without reading a header.
-ghost use Rattle.std.specs.Prelude.{◌≡◌, ◌+◌, ◌*◌, ◌<◌, ◌≤◌, ◌^◌, ℕ, List, [], ◌∷◌, false, sum_by, if◌then◌else◌, MatchOption};
+ghost use Rattle.std.specs.Prelude.{◌≡◌, ◌+◌, ◌*◌, ◌<◌, ◌≤◌, ◌^◌, ℕ, List, [], ◌∷◌, false, sum_by, if◌then◌else◌};
+ghost use Rattle.std.specs.Prelude.{MatchOption};
 ghost use Rattle.zone_spec.specs.declared.params.Params.{Params};
 ghost use Rattle.zone_spec.specs.declared.params.Row.{Row as RowValue};
 ghost use Rattle.zone_spec.specs.Layout.{zones_from};

@@ -2,7 +2,8 @@
 ghost use Rattle.std.specs.Prelude.{◌≡◌, true, length, OnOk};
 ghost use Rattle.layout_spec.specs.declared.Candidate.{Candidate as CandidateValue};
 ghost use Rattle.layout_search.specs.Placed.{with_mem, with_dump, with_console, with_ftrace, AreLists};
-ghost use Rattle.layout_search.specs.Tried.{IsAim, IsSound, Advances, IsSettled, PmsgsSettled, FtracesSettled, ConsolesSettled, DumpsSettled, MemsSettled};
+ghost use Rattle.layout_search.specs.Tried.{IsAim, IsSound, Advances, IsSettled, PmsgsSettled, FtracesSettled};
+ghost use Rattle.layout_search.specs.Tried.{ConsolesSettled, DumpsSettled, MemsSettled};
 
 use crate::lists::Lists;
 use crate::progress::{Aim, Progress};

@@ -1,5 +1,6 @@
 // A candidate tried with each tag.
-ghost use Rattle.std.specs.Prelude.{◌≡◌, ◌+◌, ◌-◌, ◌<◌, ◌≤◌, ◌++◌, ℕ, Some, true, false, map, filter, length, slice_get, slice_index, OnOk, IfOk, MatchOption};
+ghost use Rattle.std.specs.Prelude.{◌≡◌, ◌+◌, ◌-◌, ◌<◌, ◌≤◌, ◌++◌, ℕ, Some, true, false, map, filter, length};
+ghost use Rattle.std.specs.Prelude.{slice_get, slice_index, OnOk, IfOk, MatchOption};
 ghost use Rattle.zone_spec.specs.declared.Zone.{Zone as ZoneValue};
 ghost use Rattle.layout_spec.specs.Laid.{has_layout};
 ghost use Rattle.layout_spec.specs.Family.{is_chosen, is_tagged, tag_read, tags_for};

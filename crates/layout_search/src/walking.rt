@@ -1,6 +1,7 @@
 // A shape tried with each number of processors and each parity.
 ghost use Rattle.std.specs.Prelude.{◌≡◌, ◌≤◌, ◌&&◌, ◌||◌, ◌==◌, nat_lt, nat_le, true, length, ℕ, ◌<◌, OnOk, IfOk};
-ghost use Rattle.layout_spec.specs.Family.{is_chosen, is_shape, is_told_once, cpus_for, is_one_of, known_or as known_or_all, parities as all_parities, processors};
+ghost use Rattle.layout_spec.specs.Family.{is_chosen, is_shape, is_told_once, cpus_for, is_one_of};
+ghost use Rattle.layout_spec.specs.Family.{known_or as known_or_all, parities as all_parities, processors};
 ghost use Rattle.layout_search.specs.Rows.{IsRoomy};
 ghost use Rattle.layout_search.specs.Placed.{is_placed, is_ready};
 ghost use Rattle.layout_search.specs.Tried.{IsAim, IsSound, Advances, TagsSettled, ParitiesSettled, CpusSettled};

@@ -1,5 +1,6 @@
 -- The layouts that are looked through
-use Rattle.std.specs.Prelude.{ℕ, ◌-◌, Bool, true, false, ◌&&◌, ◌||◌, if◌then◌else◌, nat_lt, nat_le, ◌==◌, List, [], ◌∷◌, map, filter, length, bit_xor, is_some, Option, None, Some}
+use Rattle.std.specs.Prelude.{ℕ, ◌-◌, Bool, true, false, ◌&&◌, ◌||◌, if◌then◌else◌, nat_lt, nat_le, ◌==◌, List, [], ◌∷◌}
+use Rattle.std.specs.Prelude.{map, filter, length, bit_xor, is_some, Option, None, Some}
 use Rattle.std.specs.List.{list_any, range_with_len}
 use Rattle.zone_spec.specs.declared.Kind.{Kind}
 use Rattle.zone_spec.specs.declared.Kind.TheVariants.{Ftrace}
@@ -8,7 +9,7 @@ use Rattle.zone_spec.specs.Numbers.{plain_sig}
 use Rattle.layout_spec.specs.declared.Candidate.{Candidate}
 use Rattle.layout_spec.specs.declared.Known.{Known}
 use Rattle.layout_spec.specs.Laid.{zones_of, has_layout, memory_for_dumps}
-use Rattle.layout_spec.specs.Marks.{is_readable, words_of}
+use Rattle.layout_spec.specs.Marks.{is_readable, zone_words}
 
 -- what is known is kept
 abbrev pub known_or : Option ℕ → List ℕ → List ℕ
@@ -44,7 +45,7 @@ cpus_for known ftrace = if ftrace == 0 then 1 ∷ [] else known_or known.cpus pr
 
 -- the tag of an ftrace zone's header, which is the exclusive-or of signature and tag
 abbrev pub tag_read : List ℕ → Zone → ℕ
-tag_read image z = bit_xor plain_sig (words_of image z).sig
+tag_read image z = bit_xor plain_sig (zone_words image z).sig
 
 -- a kernel's tag (version 2 on)
 abbrev pub is_tag : ℕ → Bool

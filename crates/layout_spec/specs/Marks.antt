@@ -1,5 +1,6 @@
 -- Where a header seems to stand, and whether a zone's header reads as its own
-use Rattle.std.specs.Prelude.{ℕ, ◌+◌, ◌*◌, ◌-◌, ◌/◌, Bool, true, false, ◌&&◌, ◌||◌, not, if◌then◌else◌, nat_le, nat_lt, ◌==◌, List, map, count_by, length, min, slice_index}
+use Rattle.std.specs.Prelude.{ℕ, ◌+◌, ◌*◌, ◌-◌, ◌/◌, Bool, true, false, ◌&&◌, ◌||◌, not, if◌then◌else◌, nat_le, nat_lt}
+use Rattle.std.specs.Prelude.{◌==◌, List, map, count_by, length, min, slice_index}
 use Rattle.std.specs.List.{range_with_len}
 use Rattle.zone_spec.specs.declared.Kind.{Kind}
 use Rattle.zone_spec.specs.declared.Kind.TheVariants.{Dump, Ftrace}
@@ -50,11 +51,11 @@ marks image = count_by (λ i. is_mark image (2 * i)) (range_with_len 0 ((length 
 unfoldable pub header_of : List ℕ → Zone → PartReading
 header_of image z = part_reading z (zone_bytes z image) Header
 
-unfoldable pub words_of : List ℕ → Zone → Words
-words_of image z = words_read z (zone_bytes z image)
+unfoldable pub zone_words : List ℕ → Zone → Words
+zone_words image z = words_read z (zone_bytes z image)
 
 abbrev pub state_in : List ℕ → Zone → State
-state_in image z = state_of z (words_of image z)
+state_in image z = state_of z (zone_words image z)
 
 abbrev pub is_ring_or_empty : State → Bool
 is_ring_or_empty Empty = true
@@ -91,4 +92,4 @@ is_odd_log Ftrace line = false
 is_odd_log other line = line
 
 unfoldable pub is_odd : List ℕ → Zone → Bool
-is_odd image z = has_log image z && is_odd_log z.name.kind (has_line (log_front image z (words_of image z)))
+is_odd image z = has_log image z && is_odd_log z.name.kind (has_line (log_front image z (zone_words image z)))

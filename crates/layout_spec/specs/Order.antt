@@ -1,5 +1,6 @@
 -- Which layout comes first
-use Rattle.std.specs.Prelude.{◌≡◌, ℕ, ◌+◌, ◌-◌, ◌*◌, ◌^◌, Bool, true, false, ◌&&◌, ◌||◌, not, if◌then◌else◌, nat_lt, nat_le, ◌==◌, List, [], ◌∷◌, length, sum_by, count_by}
+use Rattle.std.specs.Prelude.{◌≡◌, ℕ, ◌+◌, ◌-◌, ◌*◌, ◌^◌, Bool, true, false, ◌&&◌, ◌||◌, not, if◌then◌else◌, nat_lt}
+use Rattle.std.specs.Prelude.{nat_le, ◌==◌, List, [], ◌∷◌, length, sum_by, count_by}
 use Rattle.std.specs.List.{list_any}
 use Rattle.zone_spec.specs.declared.Zone.{Zone}
 use Rattle.layout_spec.specs.declared.Candidate.{Candidate}

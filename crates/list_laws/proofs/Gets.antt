@@ -1,6 +1,7 @@
 -- What stands at a place of a list, of what a function made of a list, and of two lists side by side. For proofs that
 -- go over zones and what belongs to each.
-use Rattle.std.proofs.Common.{◌≡◌, ℕ, zero, suc, ◌<◌, List, [], ◌∷◌, length, map, slice_get, refl, ap, arith, Some, None}
+use Rattle.std.proofs.Common.{◌≡◌, ℕ, zero, suc, ◌<◌, List, [], ◌∷◌, length, map, slice_get, refl, ap, arith, Some}
+use Rattle.std.proofs.Common.{None}
 use Rattle.std.specs.List.{zip}
 use Rattle.std.specs.Option.{option_map}
 

@@ -1,6 +1,8 @@
 -- Slices of a list: their length, their elements, and a list of twelve bytes as three slices. For words of headers and
 -- bytes of parts.
-use Rattle.std.proofs.Common.{◌≡◌, ℕ, ◌+◌, ◌-◌, ◌<◌, ◌≤◌, List, ◌++◌, length, take, drop, get_or, slice_range, sym, ap, ◌∙◌, arith, length-take, length-drop, get_or-take, get_or-drop, append_assoc, take_all, take-append-drop}
+use Rattle.std.proofs.Common.{◌≡◌, ℕ, ◌+◌, ◌-◌, ◌<◌, ◌≤◌, List, ◌++◌, length, take, drop, get_or, slice_range, sym, ap}
+use Rattle.std.proofs.Common.{◌∙◌, arith, length-take, length-drop, get_or-take, get_or-drop, append_assoc, take_all}
+use Rattle.std.proofs.Common.{take-append-drop}
 use Rattle.std.proofs.lemmas.List.{drop-drop, drop-take, take-take}
 
 pub length-slice_range : (xs : List ℕ) (a n : ℕ) → a + n ≤ length xs → length (slice_range xs a (a + n)) ≡ n

@@ -2,7 +2,8 @@
 //! the library does not have. Each law is a function whose contract it is; proofs cite the lemmas in `proofs/`.
 #![tactic(auto)]
 
-ghost use Rattle.list_laws.specs.Laws.{FrontOfTwo, ZerosAreARun, AllOfTwo, RangesEndToEnd, SliceWithin, PairsBySide, RoundedUp};
+ghost use Rattle.list_laws.specs.Laws.{FrontOfTwo, ZerosAreARun, AllOfTwo, RangesEndToEnd, SliceWithin, PairsBySide};
+ghost use Rattle.list_laws.specs.Laws.{RoundedUp};
 
 /// A front of two lists end to end is a front of each.
 pub fn front_of_two()

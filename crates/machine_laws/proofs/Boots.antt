@@ -1,5 +1,6 @@
 -- Exact verdicts and reports, and what cut zones of a sound state read
-use Rattle.std.proofs.Common.{Option, ◌≡◌, ◌≢◌, ℕ, suc, ◌+◌, ◌-◌, Bool, true, false, cond, List, [], ◌∷◌, length, take, slice_get, refl, sym, ap, ap₂, ◌∙◌, subst, arith, Some, None, eqb-true, eq-eqb}
+use Rattle.std.proofs.Common.{Option, ◌≡◌, ◌≢◌, ℕ, suc, ◌+◌, ◌-◌, Bool, true, false, cond, List, [], ◌∷◌, length, take}
+use Rattle.std.proofs.Common.{slice_get, refl, sym, ap, ap₂, ◌∙◌, subst, arith, Some, None, eqb-true, eq-eqb}
 use Rattle.std.specs.Prelude.{nat_eq, bytes_eq}
 use Rattle.std.specs.List.{common_prefix_len}
 use Rattle.std.proofs.lemmas.Slice.Eq.{bytes_eq-Decides}
@@ -25,7 +26,8 @@ use Rattle.damage_laws.specs.CutErasures.{BootCutReads}
 use Rattle.damage_laws.proofs.CutNumbers.{cut_report_is_exact, boot_cut_report_is_exact}
 use Rattle.damage_laws.proofs.CutHeader.{cut_zone_reads}
 use Rattle.damage_laws.proofs.BootCut.{boot_cut_zone_reads}
-use Rattle.machine_laws.specs.Boots.{VerdictIsExact, ReportsErasure, ReportsExactly, ReportIsExact, ReadsCut, CutZonesRead}
+use Rattle.machine_laws.specs.Boots.{VerdictIsExact, ReportsErasure, ReportsExactly, ReportIsExact, ReadsCut}
+use Rattle.machine_laws.specs.Boots.{CutZonesRead}
 use Rattle.machine_laws.proofs.OffStates.{off_bytes}
 use Rattle.machine_laws.proofs.Sessions.{flight_call}
 

@@ -1,5 +1,8 @@
 -- A boot that is cut leaves what is held of a zone, or its end becomes the zone's stop
-use Rattle.std.proofs.Common.{◌≡◌, ℕ, zero, suc, ◌+◌, ◌-◌, ◌<◌, ◌≤◌, ◌⊎◌, Bool, true, false, cond, ◌&&◌, nat_lt, nat_le, List, [], ◌∷◌, ◌++◌, length, take, map, slice_get, get_or, refl, sym, ap, ap₂, ◌∙◌, subst, arith, inl, inr, Option, Some, None, length-append, ext_get_or, take_all, append-nil, min, leb-true, ltb-false, true≢false, get_or-drop, length-drop, drop, le-leb, ◌||◌}
+use Rattle.std.proofs.Common.{◌≡◌, ℕ, zero, suc, ◌+◌, ◌-◌, ◌<◌, ◌≤◌, ◌⊎◌, Bool, true, false, cond, ◌&&◌, nat_lt, nat_le}
+use Rattle.std.proofs.Common.{List, [], ◌∷◌, ◌++◌, length, take, map, slice_get, get_or, refl, sym, ap, ap₂, ◌∙◌, subst}
+use Rattle.std.proofs.Common.{arith, inl, inr, Option, Some, None, length-append, ext_get_or, take_all, append-nil, min}
+use Rattle.std.proofs.Common.{leb-true, ltb-false, true≢false, get_or-drop, length-drop, drop, le-leb, ◌||◌}
 use Rattle.std.specs.List.{AllByRecursion}
 use Rattle.std.proofs.lemmas.Bool.{cases_lt, or_left}
 use Rattle.std.proofs.lemmas.List.Sums.{sum_by-cons}
@@ -9,7 +12,8 @@ use Rattle.zone_spec.specs.declared.State.{State}
 use Rattle.zone_spec.specs.declared.State.TheVariants.{Unsigned, Empty, Invalid, Found}
 use Rattle.zone_spec.specs.Zones.{IsValidZone}
 use Rattle.code_spec.specs.Code.{IsWord, nearest, parity_of, IsNear}
-use Rattle.zone_spec.specs.Parts.{Part, Header, Block, part_at, part_len, part_parity_at, part_bytes, part_word, IsImage, IsPartOf}
+use Rattle.zone_spec.specs.Parts.{Part, Header, Block, part_at, part_len, part_parity_at, part_bytes, part_word}
+use Rattle.zone_spec.specs.Parts.{IsImage, IsPartOf}
 use Rattle.zone_spec.specs.Reading.{zone_reading}
 use Rattle.zone_spec.specs.Stores.{Store, put, after_stores, byte_stores}
 use Rattle.zone_spec.specs.Stages.{Stage, SigWord, StartWord, SizeWord, Run, ParityOf, stage_stores, stores_in_turn}
@@ -17,13 +21,14 @@ use Rattle.zone_spec.specs.Calls.{erase_stages}
 use Rattle.zone_spec.specs.Boot.{boot_fixes, boot_erasure, boot_stores, signing, keeps, told_by_boot}
 use Rattle.zone_spec.specs.Damage.{IsWithinBounds, IsNotDamagedFurther}
 use Rattle.code_laws.proofs.Nearest.{nearest-IsNear}
-use Rattle.ring_laws.proofs.Images.{length-put, put-below, put-above, put-inside, length-after_stores, after_stores-append}
+use Rattle.ring_laws.proofs.Images.{length-put, put-below, put-above, put-inside, length-after_stores}
+use Rattle.ring_laws.proofs.Images.{after_stores-append}
 use Rattle.ring_laws.proofs.PartsLaw.{part_fits}
 use Rattle.ring_laws.proofs.StoreBytes.{all-take}
 use Rattle.ring_laws.proofs.Fixes.{Fixes, IsMended, some_fixed, fixed_toward}
 use Rattle.ring_laws.proofs.BootLaw.{boot_fixes-all, fixed_mended}
 use Rattle.ring_laws.proofs.HeaderWords.{header_length}
-use Rattle.damage_laws.proofs.Touched.{parity_length}
+use Rattle.damage_laws.proofs.TouchedBlocks.{parity_length}
 use Rattle.ring_laws.proofs.PartWords.{part_word-IsWord, length-part_word}
 use Rattle.damage_laws.proofs.Within.{near_is}
 use Rattle.damage_laws.proofs.CutHeader.{header_toward}
@@ -31,7 +36,8 @@ use Rattle.machine_laws.proofs.Lists.{parted-at}
 use Rattle.ring_laws.specs.Laws.{ReadsTold}
 use Rattle.ring_laws.proofs.Laws.{finished_zone_reads_told}
 use Rattle.damage_laws.proofs.Corrections.{corrections_keep_reading}
-use Rattle.machine_laws.specs.CutBoots.{CutBootMakesStores, CutBootLeavesRest, CutBootHolds, CutBootReads, CutBootKeepsStops}
+use Rattle.machine_laws.specs.CutBoots.{CutBootMakesStores, CutBootLeavesRest, CutBootHolds, CutBootReads}
+use Rattle.machine_laws.specs.CutBoots.{CutBootKeepsStops}
 use Rattle.machine_spec.specs.States.{OffState, OffZone}
 use Rattle.std.proofs.lemmas.Bool.Decides.{nat_tests}
 use Rattle.machine_laws.proofs.OffStates.{memory_fits, memory_bytes, off_bytes}
@@ -42,7 +48,8 @@ use Rattle.damage_laws.specs.CutErasures.{ReadsAlike, after_boot_stores}
 use Rattle.std.proofs.Math.Nat.{min-eq_left, min-eq_right, min-le_right}
 use Rattle.list_laws.proofs.Slices.{length-slice_range, get_or-slice_range}
 use Rattle.list_laws.proofs.Elements.{AllByRecursion-append, take-append}
-use Rattle.machine_spec.specs.BootPart.{boot_cut, moved, image_boot_stores, boot_count, left_at, boot_parted, zone_parted, zone_finished, zone_cut}
+use Rattle.machine_spec.specs.BootPart.{boot_cut, moved, image_boot_stores, boot_count, left_at, boot_parted}
+use Rattle.machine_spec.specs.BootPart.{zone_parted, zone_finished, zone_cut}
 
 -- ---- stores inside and outside a zone
 InZone : ℕ → Store → Type 0

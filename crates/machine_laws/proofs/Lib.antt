@@ -10,8 +10,8 @@ pub mod PartedStates
 pub mod Operations
 pub mod Sessions
 pub mod Logs
-pub mod Merged
-pub mod Listed
+pub mod MergedEntries
+pub mod ListedRecords
 pub mod CutBoot
 pub mod Boots
 pub mod LastWritten

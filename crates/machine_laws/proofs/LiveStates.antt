@@ -1,5 +1,7 @@
 -- What keeps a live state sound
-use Rattle.std.proofs.Common.{◌≡◌, ℕ, ◌+◌, Bool, true, false, cond, ◌&&◌, ◌||◌, is_some, List, length, flat_map, slice_get, refl, sym, ap, ◌∙◌, subst, arith, inl, inr, Option, Some, None, Result, Ok, Err, length-set, length-append}
+use Rattle.std.proofs.Common.{◌≡◌, ℕ, ◌+◌, Bool, true, false, cond, ◌&&◌, ◌||◌, is_some, List, length, flat_map}
+use Rattle.std.proofs.Common.{slice_get, refl, sym, ap, ◌∙◌, subst, arith, inl, inr, Option, Some, None, Result, Ok}
+use Rattle.std.proofs.Common.{Err, length-set, length-append}
 use Rattle.zone_spec.specs.declared.Zone.{Zone}
 use Rattle.zone_spec.specs.declared.ZoneName.{ZoneName}
 use Rattle.zone_spec.specs.declared.Kind.TheVariants.{Dump as DumpKind}
@@ -19,7 +21,8 @@ use Rattle.machine_spec.specs.Zones.{EachZone}
 use Rattle.machine_spec.specs.States.{LiveZone, LiveState, Live}
 use Rattle.machine_spec.specs.ZoneCalls.{begun, finished}
 use Rattle.machine_spec.specs.LiveZones.{Target, target, ring_only, flies, with_zone, changed}
-use Rattle.machine_spec.specs.LiveCalls.{Ask, Append as AskAppend, Erase as AskErase, Dump as AskDump, begins, begin, goes_on, step, finish_at, and_finish}
+use Rattle.machine_spec.specs.LiveCalls.{Ask, Append as AskAppend, Erase as AskErase, Dump as AskDump, begins, begin}
+use Rattle.machine_spec.specs.LiveCalls.{goes_on, step, finish_at, and_finish}
 use Rattle.machine_spec.specs.Erasures.{erase_zone, erased}
 use Rattle.machine_spec.specs.Sound.{Stands, IsLiveZone, IsState, IsAsk}
 use Rattle.machine_laws.proofs.Lists.{get-set, each-zip-map, none_any, bytes-join, bytes-right, images_are}

@@ -1,5 +1,7 @@
 -- Where each byte of a log comes from, and zones that add nothing
-use Rattle.std.proofs.Common.{◌≡◌, ℕ, ◌+◌, ◌*◌, ◌/◌, ◌%◌, ◌<◌, ◌≤◌, ◌⊎◌, inl, inr, true, false, cond, Bool, ◌==◌, List, [], ◌∷◌, ◌++◌, length, map, flat_map, get_or, slice_get, slice_index, refl, sym, ap, ap₂, ◌∙◌, subst, arith, get_or-take, Option, Some, None}
+use Rattle.std.proofs.Common.{◌≡◌, ℕ, ◌+◌, ◌*◌, ◌/◌, ◌%◌, ◌<◌, ◌≤◌, ◌⊎◌, inl, inr, true, false, cond, Bool, ◌==◌, List}
+use Rattle.std.proofs.Common.{[], ◌∷◌, ◌++◌, length, map, flat_map, get_or, slice_get, slice_index, refl, sym, ap, ap₂}
+use Rattle.std.proofs.Common.{◌∙◌, subst, arith, get_or-take, Option, Some, None}
 use Rattle.std.specs.Prelude.{Contains, MatchOption}
 use Rattle.std.proofs.lemmas.Bool.{cases_lt}
 use Rattle.std.proofs.lemmas.Bool.Decides.{nat_tests}
@@ -14,7 +16,8 @@ use Rattle.zone_spec.specs.Zones.{IsValidZone}
 use Rattle.code_spec.specs.Code.{nearest}
 use Rattle.zone_spec.specs.Parts.{Block, part_len, part_bytes, part_word}
 use Rattle.zone_spec.specs.PartReadings.{part_reading, reading_by, words_read}
-use Rattle.zone_spec.specs.Reading.{ZoneReading, byte_read, log_places, blocks_below, state_of, reading_in, zone_reading}
+use Rattle.zone_spec.specs.Reading.{ZoneReading, byte_read, log_places, blocks_below, state_of, reading_in}
+use Rattle.zone_spec.specs.Reading.{zone_reading}
 use Rattle.zone_spec.specs.TimeLines.{read_line}
 use Rattle.zone_spec.specs.declared.Name.TheVariants.{Console as ConsoleName, Pmsg as PmsgName}
 use Rattle.zone_spec.specs.Records.{Saved, Listed, is_of, found, found_in, logs_of, dumps_of, dump_of, ftrace_of, plain}

@@ -1,5 +1,6 @@
 -- A state off is sound after a stop, a flip and at first, and so is the live state after a boot
-use Rattle.std.proofs.Common.{◌≡◌, ℕ, ◌+◌, ◌<◌, ◌≤◌, List, length, slice_get, get_or, refl, sym, ap, ◌∙◌, subst, arith, Option, Some, None, length-set, length-drop}
+use Rattle.std.proofs.Common.{◌≡◌, ℕ, ◌+◌, ◌<◌, ◌≤◌, List, length, slice_get, get_or, refl, sym, ap, ◌∙◌, subst, arith}
+use Rattle.std.proofs.Common.{Option, Some, None, length-set, length-drop}
 use Rattle.std.proofs.lemmas.Nat.{xor_lt}
 use Rattle.std.specs.Option.{option_map}
 use Rattle.zone_spec.specs.declared.Zone.{Zone}

@@ -1,5 +1,6 @@
 -- Every operation leaves a sound state sound
-use Rattle.std.proofs.Common.{◌≡◌, ℕ, ◌<◌, Bool, true, false, cond, nat_lt, List, [], ◌∷◌, length, refl, subst, Option, Some, None, Result, Ok, Err}
+use Rattle.std.proofs.Common.{◌≡◌, ℕ, ◌<◌, Bool, true, false, cond, nat_lt, List, [], ◌∷◌, length, refl, subst, Option}
+use Rattle.std.proofs.Common.{Some, None, Result, Ok, Err}
 use Rattle.std.specs.List.{AllByRecursion}
 use Rattle.zone_spec.specs.declared.Zone.{Zone}
 use Rattle.zone_spec.specs.declared.Refusal.{Refusal}
@@ -14,7 +15,8 @@ use Rattle.machine_spec.specs.ZoneCalls.{stepped, finished}
 use Rattle.machine_spec.specs.LiveZones.{target, flies}
 use Rattle.machine_spec.specs.LiveCalls.{asked_name, begin, step, finish, make}
 use Rattle.machine_spec.specs.Erasures.{saved_logs, erased}
-use Rattle.machine_spec.specs.Operations.{Operation, Flip, Boot, BootPart, Begin, Make, Step, Finish, EraseRecord, Stop, Refused, NoRecord, answered, erases, operated, left_by, session_after}
+use Rattle.machine_spec.specs.Operations.{Operation, Flip, Boot, BootPart, Begin, Make, Step, Finish, EraseRecord, Stop}
+use Rattle.machine_spec.specs.Operations.{Refused, NoRecord, answered, erases, operated, left_by, session_after}
 use Rattle.machine_spec.specs.Sound.{IsState, IsOperation}
 use Rattle.machine_laws.specs.Sessions.{FreshIsSound, OperationsKeepStatesSound, StatesAreSound}
 use Rattle.machine_laws.proofs.Zones.{stepped-sound, finished-sound}

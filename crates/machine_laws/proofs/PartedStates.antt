@@ -1,5 +1,7 @@
 -- A state off is sound after a boot that was cut
-use Rattle.std.proofs.Common.{ltb-true, lt-ltb, leb-false, ◌≡◌, ℕ, suc, ◌<◌, Bool, true, false, cond, ◌&&◌, nat_lt, nat_le, List, [], ◌∷◌, length, take, map, slice_get, refl, sym, ap, ◌∙◌, subst, arith, Some, None, true≢false, ◌||◌}
+use Rattle.std.proofs.Common.{ltb-true, lt-ltb, leb-false, ◌≡◌, ℕ, suc, ◌<◌, Bool, true, false, cond, ◌&&◌, nat_lt}
+use Rattle.std.proofs.Common.{nat_le, List, [], ◌∷◌, length, take, map, slice_get, refl, sym, ap, ◌∙◌, subst, arith}
+use Rattle.std.proofs.Common.{Some, None, true≢false, ◌||◌}
 use Rattle.std.specs.List.{AllByRecursion}
 use Rattle.list_laws.proofs.Elements.{AllByRecursion-append}
 use Rattle.zone_spec.specs.declared.Zone.{Zone}
@@ -15,7 +17,8 @@ use Rattle.zone_spec.specs.Stores.{Store, after_stores}
 use Rattle.zone_spec.specs.Layouts.{IsLayout}
 use Rattle.machine_spec.specs.Zones.{zone_bytes}
 use Rattle.machine_spec.specs.States.{OffZone, OffState, Off}
-use Rattle.machine_spec.specs.BootPart.{moved, image_boot_stores, boot_count, boot_cut, zone_finished, zone_cut, zone_parted, left_at, boot_parted}
+use Rattle.machine_spec.specs.BootPart.{moved, image_boot_stores, boot_count, boot_cut, zone_finished, zone_cut}
+use Rattle.machine_spec.specs.BootPart.{zone_parted, left_at, boot_parted}
 use Rattle.machine_spec.specs.Sound.{IsOffZone, IsState}
 use Rattle.machine_laws.proofs.Lists.{parted-at, length-parted}
 use Rattle.machine_laws.proofs.OffStates.{off_bytes}

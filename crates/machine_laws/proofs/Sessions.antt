@@ -1,5 +1,8 @@
 -- Appends, undamaged zones and flips
-use Rattle.std.proofs.Common.{slice_get, take, drop, ap₂, suc, ◌-◌, length-set, get_or-set_same, get_or-set_other, get_or, append-nil, append_assoc, bit_xor, flat_map, ◌≡◌, ℕ, ◌+◌, List, [], ◌∷◌, ◌++◌, length, refl, sym, ap, ◌∙◌, length-append, length-drop, subst, subst₂, arith, inl, inr, Some}
+use Rattle.std.proofs.Common.{slice_get, take, drop, ap₂, suc, ◌-◌, length-set, get_or-set_same, get_or-set_other}
+use Rattle.std.proofs.Common.{get_or, append-nil, append_assoc, bit_xor, flat_map, ◌≡◌, ℕ, ◌+◌, List, [], ◌∷◌, ◌++◌}
+use Rattle.std.proofs.Common.{length, refl, sym, ap, ◌∙◌, length-append, length-drop, subst, subst₂, arith, inl, inr}
+use Rattle.std.proofs.Common.{Some}
 use Rattle.std.proofs.lemmas.List.Sums.{sum_by-cons}
 use Rattle.std.proofs.lemmas.List.{take-append-drop, drop-drop, drop-append-le}
 use Rattle.zone_spec.specs.Layouts.{zones_end}
@@ -20,7 +23,8 @@ use Rattle.damage_laws.proofs.CutPlaces.{old_places}
 use Rattle.machine_spec.specs.Sound.{IsOffZone, IsInFlight}
 use Rattle.machine_spec.specs.Headline.{OldPlacesRead}
 use Rattle.ring_laws.proofs.RingLaw.{last_items-short}
-use Rattle.machine_laws.specs.Sessions.{AppendsTellLastBytes, ImageIsZonesAndRest, UndamagedReadsTold, ReadsAsAtStop, FlipChangesOneByte}
+use Rattle.machine_laws.specs.Sessions.{AppendsTellLastBytes, ImageIsZonesAndRest, UndamagedReadsTold, ReadsAsAtStop}
+use Rattle.machine_laws.specs.Sessions.{FlipChangesOneByte}
 use Rattle.machine_laws.proofs.OffStates.{off_bytes}
 
 -- ---- appends

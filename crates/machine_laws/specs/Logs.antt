@@ -1,5 +1,6 @@
 -- Where the bytes of logs and records come from
-use Rattle.std.specs.Prelude.{◌≡◌, ◌≢◌, ℕ, ◌+◌, ◌/◌, ◌%◌, List, [], ◌∷◌, ◌++◌, length, slice_get, slice_index, Contains, MatchOption, Some}
+use Rattle.std.specs.Prelude.{◌≡◌, ◌≢◌, ℕ, ◌+◌, ◌/◌, ◌%◌, List, [], ◌∷◌, ◌++◌, length, slice_get, slice_index, Contains}
+use Rattle.std.specs.Prelude.{MatchOption, Some}
 use Rattle.std.specs.List.{AllByRecursion, fold}
 use Rattle.zone_spec.specs.declared.Zone.{Zone}
 use Rattle.zone_spec.specs.declared.State.TheVariants.{Unsigned, Found}

@@ -1,5 +1,6 @@
 -- What holds of every state that a session reaches, and what the told lists are
-use Rattle.std.specs.Prelude.{◌≡◌, ◌≢◌, ℕ, ◌<◌, ◌≤◌, List, ◌++◌, length, drop, flat_map, fold, slice_index, bit_xor, Some, None}
+use Rattle.std.specs.Prelude.{◌≡◌, ◌≢◌, ℕ, ◌<◌, ◌≤◌, List, ◌++◌, length, drop, flat_map, fold, slice_index, bit_xor}
+use Rattle.std.specs.Prelude.{Some, None}
 use Rattle.zone_spec.specs.declared.Zone.{Zone}
 use Rattle.zone_spec.specs.declared.Verdict.TheVariants.{AsTold}
 use Rattle.zone_spec.specs.Parts.{AreBytes}

@@ -2,12 +2,15 @@
 //! headline. Each law is a function whose contract it is.
 #![tactic(auto)]
 
-ghost use Rattle.machine_laws.specs.Sessions.{ImageIsZonesAndRest, FreshIsSound, OperationsKeepStatesSound, StatesAreSound, AppendsTellLastBytes, UndamagedReadsTold, FlipChangesOneByte};
+ghost use Rattle.machine_laws.specs.Sessions.{ImageIsZonesAndRest, FreshIsSound, OperationsKeepStatesSound};
+ghost use Rattle.machine_laws.specs.Sessions.{StatesAreSound, AppendsTellLastBytes, UndamagedReadsTold};
+ghost use Rattle.machine_laws.specs.Sessions.{FlipChangesOneByte};
 ghost use Rattle.machine_laws.specs.Logs.{LogBytesCome, UnsignedAddsNothing, NotFoundAddsNothing, MergedEntriesCome};
 ghost use Rattle.machine_laws.specs.Listed.{ListedIsFound};
 ghost use Rattle.machine_laws.specs.Boots.{VerdictIsExact, ReportIsExact, CutZonesRead};
 ghost use Rattle.machine_laws.specs.ZoneReads.{SoundStateReadsZones};
-ghost use Rattle.machine_laws.specs.CutBoots.{CutBootMakesStores, CutBootLeavesRest, CutBootHolds, CutBootReads, CutBootKeepsStops};
+ghost use Rattle.machine_laws.specs.CutBoots.{CutBootMakesStores, CutBootLeavesRest, CutBootHolds, CutBootReads};
+ghost use Rattle.machine_laws.specs.CutBoots.{CutBootKeepsStops};
 ghost use Rattle.machine_laws.specs.Headline.{Headline, SoundStateReadsLastWritten};
 
 /// An image is its zones' bytes end to end, and the bytes after them.

@@ -1,5 +1,6 @@
 -- An image under new parameters: what of an old image's saved logs fits, and a blank image that is told it
-use Rattle.std.specs.Prelude.{ℕ, Bool, false, not, ◌&&◌, ◌==◌, if◌then◌else◌, is_some, nat_le, List, length, map, filter, flat_map, fold, zip, replicate, slice_get, Option, Some, None, []}
+use Rattle.std.specs.Prelude.{ℕ, Bool, false, not, ◌&&◌, ◌==◌, if◌then◌else◌, is_some, nat_le, List, length, map}
+use Rattle.std.specs.Prelude.{filter, flat_map, fold, zip, replicate, slice_get, Option, Some, None, []}
 use Rattle.std.specs.Option.{option_and_then, option_map}
 use Rattle.std.specs.List.{list_all}
 use Rattle.zone_spec.specs.declared.Zone.{Zone}
@@ -7,7 +8,8 @@ use Rattle.zone_spec.specs.declared.ZoneName.{ZoneName}
 use Rattle.zone_spec.specs.declared.Kind.{Kind}
 use Rattle.zone_spec.specs.declared.Kind.TheVariants.{Dump, Console, Ftrace, Pmsg}
 use Rattle.zone_spec.specs.declared.Name.{Name}
-use Rattle.zone_spec.specs.declared.Name.TheVariants.{Dump as DumpName, Console as ConsoleName, Pmsg as PmsgName, Ftrace as FtraceName}
+use Rattle.zone_spec.specs.declared.Name.TheVariants.{Dump as DumpName, Console as ConsoleName, Pmsg as PmsgName}
+use Rattle.zone_spec.specs.declared.Name.TheVariants.{Ftrace as FtraceName}
 use Rattle.zone_spec.specs.declared.TimeLine.{TimeLine}
 use Rattle.zone_spec.specs.TimeLines.{read_line}
 use Rattle.zone_spec.specs.Reading.{ZoneReading}

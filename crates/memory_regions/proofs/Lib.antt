@@ -1,4 +1,4 @@
 mod ReadWithin
-pub mod Marked
+pub mod PageMarks
 pub mod NextPiece
 mod FromFront

@@ -1,11 +1,12 @@
 -- The marked pages of what was read, with those of the next piece. For `add_piece` and `marked_pages`.
-use Rattle.std.proofs.Common.{◌≡◌, ◌∙◌, ℕ, ◌+◌, ◌*◌, ◌/◌, ◌%◌, ◌≤◌, List, [], ◌++◌, length, map, take, drop, refl, sym, ap, subst, arith, take_all, Option, Some, None, IfSome}
+use Rattle.std.proofs.Common.{◌≡◌, ◌∙◌, ℕ, ◌+◌, ◌*◌, ◌/◌, ◌%◌, ◌≤◌, List, [], ◌++◌, length, map, take, drop, refl, sym}
+use Rattle.std.proofs.Common.{ap, subst, arith, take_all, Option, Some, None, IfSome}
 use Rattle.std.proofs.Math.Seq.{take-add}
 use Rattle.std.proofs.lemmas.List.{length-take-le}
 use Rattle.memory_spec.specs.Pages.{marked}
 use Rattle.memory_regions.specs.declared.pages.Unread.{Unread}
 use Rattle.memory_regions.specs.Faults.{IsUnread}
-use Rattle.memory_regions.proofs.Marked.{marked-append}
+use Rattle.memory_regions.proofs.PageMarks.{marked-append}
 
 pub pages_read : (holds : Option (List ℕ)) (at count first : ℕ) (piece old new : List ℕ)
     → new ≡ old ++ map (λ page. first + page) (marked piece)

@@ -3,7 +3,8 @@ ghost use Rattle.std.specs.Prelude.{◌≡◌, None, map, take, IfOk};
 ghost use Rattle.std.specs.List.{AllByRecursion, find};
 ghost use Rattle.memory_spec.specs.Sizes.{comes_first};
 ghost use Rattle.memory_regions.specs.declared.choosing.Reading.{Reading as ReadingValue};
-ghost use Rattle.memory_regions.specs.Choice.{IsReading, AreReadings, is_explained, is_first, is_better, better, best_from, has_few, is_rival};
+ghost use Rattle.memory_regions.specs.Choice.{IsReading, AreReadings, is_explained, is_first, is_better, better};
+ghost use Rattle.memory_regions.specs.Choice.{best_from, has_few, is_rival};
 
 use crate::pages::add_marked;
 use crate::sizes::sizes;

@@ -1,5 +1,7 @@
 -- A zone of zeros after a boot
-use Rattle.std.proofs.Common.{◌≡◌, ℕ, zero, suc, ◌+◌, ◌-◌, ◌≤◌, ◌==◌, Bool, true, false, cond, not, List, [], ◌∷◌, ◌++◌, length, take, drop, flat_map, get_or, slice_range, replicate, refl, sym, ap, ap₂, ◌∙◌, subst, arith, inl, inr, eq-eqb, length-take, get_or-take, get_or-drop}
+use Rattle.std.proofs.Common.{◌≡◌, ℕ, zero, suc, ◌+◌, ◌-◌, ◌≤◌, ◌==◌, Bool, true, false, cond, not, List, [], ◌∷◌, ◌++◌}
+use Rattle.std.proofs.Common.{length, take, drop, flat_map, get_or, slice_range, replicate, refl, sym, ap, ap₂, ◌∙◌}
+use Rattle.std.proofs.Common.{subst, arith, inl, inr, eq-eqb, length-take, get_or-take, get_or-drop}
 use Rattle.std.proofs.lemmas.Bool.{cases_lt}
 use Rattle.std.proofs.lemmas.List.{get_or_append_left, get_or-append_right, length-replicate, get_or_past}
 use Rattle.zone_spec.specs.declared.Zone.{Zone}
@@ -7,13 +9,15 @@ use Rattle.zone_spec.specs.declared.Words.{Words}
 use Rattle.zone_spec.specs.declared.State.{State}
 use Rattle.zone_spec.specs.declared.State.TheVariants.{Unsigned, Empty, Invalid, Found}
 use Rattle.zone_spec.specs.Zones.{IsValidZone}
-use Rattle.zone_spec.specs.Parts.{AreBytes, Header, Block, part_at, part_len, part_parity_at, part_bytes, part_word, words_in, IsImage}
+use Rattle.zone_spec.specs.Parts.{AreBytes, Header, Block, part_at, part_len, part_parity_at, part_bytes, part_word}
+use Rattle.zone_spec.specs.Parts.{words_in, IsImage}
 use Rattle.zone_spec.specs.PartReadings.{words_read, part_reading}
 use Rattle.zone_spec.specs.Reading.{zone_reading, reading_in, state_of}
 use Rattle.zone_spec.specs.Stores.{Store, after_stores}
 use Rattle.zone_spec.specs.Stages.{SigWord, StartWord, SizeWord, stores_in_turn}
 use Rattle.zone_spec.specs.Calls.{erase_stages}
-use Rattle.zone_spec.specs.Boot.{fix_stores, part_fixes, keeps, blocks_read, boot_fixes, signing, boot_erasure, boot_stores, told_by_boot}
+use Rattle.zone_spec.specs.Boot.{fix_stores, part_fixes, keeps, blocks_read, boot_fixes, signing, boot_erasure}
+use Rattle.zone_spec.specs.Boot.{boot_stores, told_by_boot}
 use Rattle.machine_spec.specs.Zones.{zone_bytes}
 use Rattle.code_laws.proofs.Parity.{codeword_of}
 use Rattle.code_laws.proofs.Steps.{zeros_codeword}

@@ -1,5 +1,7 @@
 -- The header and the blocks of a log are codewords after a boot of zeros and one append
-use Rattle.std.proofs.Common.{◌≡◌, ℕ, zero, suc, ◌+◌, ◌-◌, ◌*◌, ◌/◌, ◌<◌, ◌≤◌, ◌==◌, Bool, false, cond, min, ◌%◌, List, [], ◌∷◌, ◌++◌, length, map, take, drop, slice_range, refl, sym, ap, ap₂, ◌∙◌, subst, arith, inl, inr, IsTrue, take_all, append-nil, mul_comm}
+use Rattle.std.proofs.Common.{◌≡◌, ℕ, zero, suc, ◌+◌, ◌-◌, ◌*◌, ◌/◌, ◌<◌, ◌≤◌, ◌==◌, Bool, false, cond, min, ◌%◌, List}
+use Rattle.std.proofs.Common.{[], ◌∷◌, ◌++◌, length, map, take, drop, slice_range, refl, sym, ap, ap₂, ◌∙◌, subst}
+use Rattle.std.proofs.Common.{arith, inl, inr, IsTrue, take_all, append-nil, mul_comm}
 use Rattle.std.specs.List.{AllByRecursion, range_with_len}
 use Rattle.std.proofs.lemmas.Bool.{cases_eq}
 use Rattle.std.proofs.lemmas.Bool.Decides.{nat_tests}
@@ -7,14 +9,17 @@ use Rattle.std.proofs.lemmas.List.{drop_all}
 use Rattle.zone_spec.specs.declared.Zone.{Zone}
 use Rattle.zone_spec.specs.Zones.{IsValidZone}
 use Rattle.code_spec.specs.Code.{is_codeword, parity_of}
-use Rattle.zone_spec.specs.Parts.{AreBytes, IsImage, Part, Header, Block, part_at, part_len, part_parity_at, part_bytes, part_word, standing_words}
+use Rattle.zone_spec.specs.Parts.{AreBytes, IsImage, Part, Header, Block, part_at, part_len, part_parity_at, part_bytes}
+use Rattle.zone_spec.specs.Parts.{part_word, standing_words}
 use Rattle.zone_spec.specs.Stores.{put}
 use Rattle.zone_spec.specs.Stages.{Stage, StartWord, SizeWord, Run, ParityOf, stage_stores}
 use Rattle.zone_spec.specs.Calls.{append_stages, run_stages, call_stages, call_stores, image_after}
 use Rattle.zone_spec.specs.Told.{Append}
 use Rattle.ring_laws.proofs.Images.{length-put, put-below, after_stores-byte_stores}
 use Rattle.ring_laws.proofs.AppendLaw.{stage_image, all_stages, all_stages-append, length-all_stages}
-use Rattle.ring_laws.proofs.PartsLaw.{block_some, HasPart, part_number, part_parity_at-number, part_end, part_fits, part_short, slice_range-same, slice_range-bytes, SamePart, LeavesParts, parities_leave, parity-other, parity-bytes, slice_range-put}
+use Rattle.ring_laws.proofs.PartsLaw.{block_some, HasPart, part_number, part_parity_at-number, part_end, part_fits}
+use Rattle.ring_laws.proofs.PartsLaw.{part_short, slice_range-same, slice_range-bytes, SamePart, LeavesParts}
+use Rattle.ring_laws.proofs.PartsLaw.{parities_leave, parity-other, parity-bytes, slice_range-put}
 use Rattle.ring_laws.proofs.PartWords.{has_parity}
 use Rattle.ring_laws.proofs.RunLaw.{cap_within, met_low, met_high, met_order, unmet_high}
 use Rattle.ring_laws.proofs.EveryParity.{block_has}

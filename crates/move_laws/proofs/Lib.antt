@@ -2,12 +2,12 @@
 -- ramoops cite them.
 pub mod Codes
 pub mod Blank
-pub mod Filled
+pub mod FreshZones
 pub mod Counts
-pub mod Moved
-pub mod Listed
+pub mod MovedState
+pub mod ListedLogs
 pub mod Order
 pub mod Fits
 pub mod Places
-pub mod Saved
+pub mod SavedLogs
 pub mod Ranks

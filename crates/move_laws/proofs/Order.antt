@@ -1,5 +1,6 @@
 -- A boot of a moved image lists the records of the logs that were told
-use Rattle.std.proofs.Common.{◌≡◌, ℕ, suc, ◌==◌, Bool, true, false, cond, not, List, [], ◌∷◌, ◌++◌, length, map, slice_get, refl, sym, ap, ap₂, ◌∙◌, arith, Some}
+use Rattle.std.proofs.Common.{◌≡◌, ℕ, suc, ◌==◌, Bool, true, false, cond, not, List, [], ◌∷◌, ◌++◌, length, map}
+use Rattle.std.proofs.Common.{slice_get, refl, sym, ap, ap₂, ◌∙◌, arith, Some}
 use Rattle.std.specs.Prelude.{find, flat_map, unwrap_or, zip}
 use Rattle.std.proofs.lemmas.List.Concat.{flat_map-append}
 use Rattle.list_laws.proofs.Tests.{eqb_zero_from_lt}
@@ -12,7 +13,8 @@ use Rattle.zone_spec.specs.declared.Name.TheVariants.{Console as ConsoleName, Pm
 use Rattle.zone_spec.specs.declared.State.TheVariants.{Empty, Found}
 use Rattle.zone_spec.specs.TimeLines.{read_line}
 use Rattle.zone_spec.specs.Reading.{ZoneReading, zone_reading}
-use Rattle.zone_spec.specs.Records.{Saved, Listed, is_of, found_in, found, logs_of, dump_of, dumps_of, plain, ftrace_of, listed_of}
+use Rattle.zone_spec.specs.Records.{Saved, Listed, is_of, found_in, found, logs_of, dump_of, dumps_of, plain, ftrace_of}
+use Rattle.zone_spec.specs.Records.{listed_of}
 use Rattle.machine_spec.specs.Zones.{zone_bytes}
 use Rattle.machine_spec.specs.Boot.{booted}
 use Rattle.machine_spec.specs.Erasures.{saved_logs}
@@ -20,8 +22,8 @@ use Rattle.machine_spec.specs.Moved.{found_of, fitting, moved}
 use Rattle.machine_laws.proofs.Lists.{get-below}
 use Rattle.move_laws.specs.Moves.{ReadsLog}
 use Rattle.move_laws.specs.Listed.{named, IsOneLog, MovedImageLists, MoveListsWhatFits}
-use Rattle.move_laws.proofs.Moved.{moved-reads}
-use Rattle.move_laws.proofs.Listed.{fitting_lists_what_fits}
+use Rattle.move_laws.proofs.MovedState.{moved-reads}
+use Rattle.move_laws.proofs.ListedLogs.{fitting_lists_what_fits}
 use Rattle.move_laws.proofs.Fits.{fitting_logs_fit}
 use Rattle.move_laws.proofs.Places.{fitting_takes_in_order}
 

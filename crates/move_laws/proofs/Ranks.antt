@@ -1,5 +1,7 @@
 -- The zones of parameters come by kind and number, so in one order under all parameters
-use Rattle.std.proofs.Common.{◌≡◌, ℕ, zero, suc, ◌+◌, ◌*◌, ◌<◌, ◌≤◌, ◌⊎◌, Bool, true, false, cond, not, ◌&&◌, nat_lt, List, [], ◌∷◌, ◌++◌, length, map, slice_get, get_or, refl, sym, ap, ap₂, ◌∙◌, subst, arith, inl, inr, Some, None, eq-eqb}
+use Rattle.std.proofs.Common.{◌≡◌, ℕ, zero, suc, ◌+◌, ◌*◌, ◌<◌, ◌≤◌, ◌⊎◌, Bool, true, false, cond, not, ◌&&◌, nat_lt}
+use Rattle.std.proofs.Common.{List, [], ◌∷◌, ◌++◌, length, map, slice_get, get_or, refl, sym, ap, ap₂, ◌∙◌, subst}
+use Rattle.std.proofs.Common.{arith, inl, inr, Some, None, eq-eqb}
 use Rattle.std.specs.List.{AllByRecursion, range_with_len, position_or_len}
 use Rattle.std.proofs.lemmas.Bool.{cases_lt, cases_eq, lt-ltb}
 use Rattle.std.proofs.lemmas.List.Quantifiers.{position-Some}
@@ -18,7 +20,7 @@ use Rattle.zone_spec.specs.Records.{Saved, is_of}
 use Rattle.machine_spec.specs.Zones.{zone_bytes}
 use Rattle.move_laws.specs.Listed.{AreNamed, LayoutsComeInOrder, LayoutsAreNamed, LayoutsKeepRecords}
 use Rattle.move_laws.proofs.Fits.{same_name}
-use Rattle.move_laws.proofs.Saved.{zip_at, move_keeps_records}
+use Rattle.move_laws.proofs.SavedLogs.{zip_at, move_keeps_records}
 
 abbrev rank : Kind → ℕ
 rank Dump = 0

@@ -1,5 +1,6 @@
 -- A moved image: its zones are told the logs that were found of them, and read those
-use Rattle.std.specs.Prelude.{◌≡◌, ℕ, ◌+◌, ◌≤◌, not, ◌==◌, if◌then◌else◌, List, [], length, map, find, replicate, slice_get, Some, None, unwrap_or}
+use Rattle.std.specs.Prelude.{◌≡◌, ℕ, ◌+◌, ◌≤◌, not, ◌==◌, if◌then◌else◌, List, [], length, map, find, replicate}
+use Rattle.std.specs.Prelude.{slice_get, Some, None, unwrap_or}
 use Rattle.std.specs.List.{AllByRecursion}
 use Rattle.zone_spec.specs.declared.Zone.{Zone}
 use Rattle.zone_spec.specs.declared.State.TheVariants.{Empty, Found}

@@ -2,8 +2,11 @@
 //! it is.
 #![tactic(auto)]
 
-ghost use Rattle.move_laws.specs.Moves.{BlankZoneIsToldNothing, MovedImageIsSound, MovedZonesAreTold, MovedImageReads, MovedZonesRead};
-ghost use Rattle.move_laws.specs.Listed.{FittingListsWhatFits, FittingLogsFit, FittingTakesInOrder, MovedImageLists, MoveListsWhatFits, BootsHaveBytes, ImageLogsFit, MoveKeepsRecords, LayoutsComeInOrder, LayoutsAreNamed, LayoutsKeepRecords};
+ghost use Rattle.move_laws.specs.Moves.{BlankZoneIsToldNothing, MovedImageIsSound, MovedZonesAreTold, MovedImageReads};
+ghost use Rattle.move_laws.specs.Moves.{MovedZonesRead};
+ghost use Rattle.move_laws.specs.Listed.{FittingListsWhatFits, FittingLogsFit, FittingTakesInOrder, MovedImageLists};
+ghost use Rattle.move_laws.specs.Listed.{MoveListsWhatFits, BootsHaveBytes, ImageLogsFit, MoveKeepsRecords};
+ghost use Rattle.move_laws.specs.Listed.{LayoutsComeInOrder, LayoutsAreNamed, LayoutsKeepRecords};
 
 /// A zone of zeros is sound after a boot, in no flight, and told nothing.
 pub fn blank_zone_is_told_nothing()

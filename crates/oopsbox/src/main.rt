@@ -1,7 +1,7 @@
 //! `oopsbox`: the image tool on a real file, standard input and standard output.
 #![tactic(auto)]
 
-use image_tool::run;
+use commands::run;
 use outside::{FileStore, ReaderSource, WriterSink};
 use std::alloc::{AllocError, Global};
 use std::env::Env;

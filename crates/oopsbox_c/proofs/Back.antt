@@ -6,14 +6,18 @@ use Rattle.zone_spec.specs.declared.CallKind.TheVariants.{Append, Erase, Dump}
 use Rattle.store_steps.specs.declared.place.Leg.{Leg}
 use Rattle.store_steps.specs.declared.place.Leg.TheVariants.{Erasure, Payload, Line, Body}
 use Rattle.store_steps.specs.declared.place.Phase.{Phase}
-use Rattle.store_steps.specs.declared.place.Phase.TheVariants.{ZeroStart, ZeroSize, Size, Start, First, FirstParity, Second, SecondParity, Header, Finished}
+use Rattle.store_steps.specs.declared.place.Phase.TheVariants.{ZeroStart, ZeroSize, Size, Start, First, FirstParity}
+use Rattle.store_steps.specs.declared.place.Phase.TheVariants.{Second, SecondParity, Header, Finished}
 use Rattle.store_steps.specs.declared.steps.Steps.{Steps}
 use Rattle.zone_boot.specs.declared.boots.Boot.{Boot}
 use Rattle.zone_boot.specs.declared.boots.Phase.{Phase as BootPhase}
-use Rattle.zone_boot.specs.declared.boots.Phase.TheVariants.{Header as BootHeader, Blocks, Signature, Start as BootStart, Size as BootSize, Parity, Finished as BootFinished}
+use Rattle.zone_boot.specs.declared.boots.Phase.TheVariants.{Header as BootHeader, Blocks, Signature}
+use Rattle.zone_boot.specs.declared.boots.Phase.TheVariants.{Start as BootStart, Size as BootSize, Parity}
+use Rattle.zone_boot.specs.declared.boots.Phase.TheVariants.{Finished as BootFinished}
 use Rattle.zone_boot.specs.declared.deciding.Erasure.{Erasure as BootErasure}
 use Rattle.zone_boot.specs.declared.deciding.Erasure.TheVariants.{Kept, Erased, Signed}
-use Rattle.oopsbox_c.specs.BootNumbers.{erasure_in, erasure_number, phase_in as boot_phase_in, phase_number as boot_phase_number}
+use Rattle.oopsbox_c.specs.BootNumbers.{erasure_in, erasure_number, phase_in as boot_phase_in}
+use Rattle.oopsbox_c.specs.BootNumbers.{phase_number as boot_phase_number}
 use Rattle.oopsbox_c.specs.Numbers.{call_in, call_number, leg_in, leg_number, phase_in, phase_number}
 
 pub call_back : (k : CallKind) → call_in (call_number k) ≡ k

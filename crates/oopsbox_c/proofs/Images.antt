@@ -1,5 +1,6 @@
 -- A zone's bytes, put into a span of zeros, are those bytes.
-use Rattle.std.proofs.Common.{◌≡◌, ℕ, zero, suc, ◌+◌, ◌-◌, ◌≤◌, List, [], ◌++◌, length, drop, replicate, refl, ap, ◌∙◌, arith, zero-add, length-take, length-drop}
+use Rattle.std.proofs.Common.{◌≡◌, ℕ, zero, suc, ◌+◌, ◌-◌, ◌≤◌, List, [], ◌++◌, length, drop, replicate, refl, ap, ◌∙◌}
+use Rattle.std.proofs.Common.{arith, zero-add, length-take, length-drop}
 use Rattle.std.proofs.lemmas.List.{append-nil, length-replicate}
 use Rattle.zone_spec.specs.declared.Zone.{Zone}
 use Rattle.zone_spec.specs.Stores.{put}

@@ -3,7 +3,7 @@ use Rattle.std.proofs.Common.{◌≡◌, ℕ, ◌≤◌, List, [], Some, subst, 
 use Rattle.outside.specs.Outside.{Rose}
 use Rattle.grammar_spec.specs.Fields.{Text}
 use Rattle.command_spec.specs.Answers.{Outside, outside}
-use Rattle.image_tool.specs.Runs.{Runs}
+use Rattle.commands.specs.Runs.{Runs}
 use Rattle.oopsbox_c.specs.Runs.{IsRun}
 
 pub is_run : (words : List Text) (script image after text s i t left : List ℕ) (status fi w ft gi gw gt : ℕ)

@@ -1,5 +1,6 @@
 -- What the calls on one block answer
-use Rattle.std.specs.Prelude.{◌≡◌, ℕ, ◌+◌, ◌/◌, ◌≤◌, ◌<◌, Bool, ◌&&◌, not, if◌then◌else◌, nat_le, List, length, slice_get, Option, Some, None}
+use Rattle.std.specs.Prelude.{◌≡◌, ℕ, ◌+◌, ◌/◌, ◌≤◌, ◌<◌, Bool, ◌&&◌, not, if◌then◌else◌, nat_le, List, length}
+use Rattle.std.specs.Prelude.{slice_get, Option, Some, None}
 use Rattle.rs_decode.specs.declared.Fix.{Fix}
 use Rattle.rs_decode.specs.declared.Decoded.{Decoded}
 use Rattle.rs_decode.specs.declared.Decoded.TheVariants.{Clean, Fixed, Bad as BadWord}

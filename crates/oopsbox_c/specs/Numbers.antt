@@ -5,7 +5,8 @@ use Rattle.zone_spec.specs.declared.CallKind.TheVariants.{Append, Erase, Dump}
 use Rattle.store_steps.specs.declared.place.Leg.{Leg}
 use Rattle.store_steps.specs.declared.place.Leg.TheVariants.{Erasure, Payload, Line, Body}
 use Rattle.store_steps.specs.declared.place.Phase.{Phase}
-use Rattle.store_steps.specs.declared.place.Phase.TheVariants.{ZeroStart, ZeroSize, Size, Start, First, FirstParity, Second, SecondParity, Header, Finished}
+use Rattle.store_steps.specs.declared.place.Phase.TheVariants.{ZeroStart, ZeroSize, Size, Start, First, FirstParity}
+use Rattle.store_steps.specs.declared.place.Phase.TheVariants.{Second, SecondParity, Header, Finished}
 
 abbrev pub call_number : CallKind → ℕ
 call_number Append = 0

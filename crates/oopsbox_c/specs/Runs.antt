@@ -4,7 +4,7 @@ use Rattle.outside.specs.Outside.{Rose}
 use Rattle.grammar_spec.specs.Fields.{Text}
 use Rattle.grammar_spec.specs.Lines.{fields_of}
 use Rattle.command_spec.specs.Answers.{outside}
-use Rattle.image_tool.specs.Runs.{Runs}
+use Rattle.commands.specs.Runs.{Runs}
 use Rattle.oopsbox_c.specs.declared.ends.End.{End}
 use Rattle.oopsbox_c.specs.declared.ends.End.TheVariants.{Room, Argument, Memory, Ran}
 use Rattle.oopsbox_c.specs.declared.running.Lengths.{Lengths}

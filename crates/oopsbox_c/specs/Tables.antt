@@ -1,5 +1,6 @@
 -- Tables of the caller's
-use Rattle.std.specs.Prelude.{◌≡◌, ℕ, ◌+◌, ◌*◌, ◌^◌, ◌⊎◌, Bool, ◌&&◌, if◌then◌else◌, nat_le, ◌==◌, List, [], length, map}
+use Rattle.std.specs.Prelude.{◌≡◌, ℕ, ◌+◌, ◌*◌, ◌^◌, ◌⊎◌, Bool, ◌&&◌, if◌then◌else◌, nat_le, ◌==◌, List, [], length}
+use Rattle.std.specs.Prelude.{map}
 use Rattle.rs_encode.specs.Lanes.{IsTable}
 use Rattle.oopsbox_c.specs.declared.ends.End.{End}
 use Rattle.oopsbox_c.specs.declared.ends.End.TheVariants.{Done, Argument}

@@ -1,5 +1,6 @@
 -- What the calls on a layout and on a zone answer
-use Rattle.std.specs.Prelude.{◌≡◌, ⊤, ℕ, ◌+◌, ◌≤◌, ◌<◌, ◌⊎◌, List, [], ◌++◌, length, drop, slice_get, Some, Result, Ok, Err, IsUtf8}
+use Rattle.std.specs.Prelude.{◌≡◌, ⊤, ℕ, ◌+◌, ◌≤◌, ◌<◌, ◌⊎◌, List, [], ◌++◌, length, drop, slice_get, Some, Result, Ok}
+use Rattle.std.specs.Prelude.{Err, IsUtf8}
 use Rattle.zone_spec.specs.declared.Zone.{Zone}
 use Rattle.zone_spec.specs.declared.params.Params.{Params}
 use Rattle.zone_spec.specs.declared.params.LayoutFault.{LayoutFault}
@@ -21,7 +22,8 @@ use Rattle.oopsbox_c.specs.declared.places.LayoutAnswer.{LayoutAnswer}
 use Rattle.oopsbox_c.specs.declared.places.ZoneAnswer.{ZoneAnswer}
 use Rattle.oopsbox_c.specs.Places.{place_of, layout_answer, fault_answer, zone_answer}
 use Rattle.oopsbox_c.specs.declared.zones.NoLayout.{NoLayout}
-use Rattle.oopsbox_c.specs.declared.zones.NoLayout.TheVariants.{NotText, Word, Layout as NoSuchLayout, Memory as NoMemory}
+use Rattle.oopsbox_c.specs.declared.zones.NoLayout.TheVariants.{NotText, Word, Layout as NoSuchLayout}
+use Rattle.oopsbox_c.specs.declared.zones.NoLayout.TheVariants.{Memory as NoMemory}
 
 -- the place of the word at fault, from 1
 abbrev pub fault_word : ParamFault → ℕ

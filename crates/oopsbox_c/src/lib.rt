@@ -31,7 +31,7 @@ pub use laws::flights_are_whole;
 pub use layouts::{LayoutParams, oopsbox_zone_at};
 pub use places::{LayoutAnswer, ZoneAnswer, ZonePlace};
 pub use readings::{oopsbox_zone_log, oopsbox_zone_read};
-pub use report_calls::ReportAnswer;
+pub use report_entry::ReportAnswer;
 pub use reporting::oopsbox_report;
 pub use running::Lengths;
 pub use stores::{StoreRow, Stores};

@@ -1,10 +1,10 @@
 // The report of an image in memory.
 ghost use Rattle.std.specs.Prelude.{◌≡◌, IsUtf8};
-ghost use Rattle.report_calls.specs.Answers.{status_of};
-ghost use Rattle.report_calls.specs.Words.{words_of};
-ghost use Rattle.report_calls.specs.Calls.{CallEnds, given, written};
+ghost use Rattle.report_entry.specs.Answers.{status_of};
+ghost use Rattle.report_entry.specs.Words.{text_words};
+ghost use Rattle.report_entry.specs.Calls.{CallEnds, given, written};
 
-use report_calls::{Asked, ReportAnswer, ReportEnd, WordsFault, read_some_words, report_in};
+use report_entry::{Asked, ReportAnswer, ReportEnd, WordsFault, read_some_words, report_in};
 use std::alloc::Global;
 
 fn report(
@@ -17,7 +17,7 @@ fn report(
     text: &mut [u8],
     answer: &mut ReportAnswer,
 ) -> ReportEnd
-    ensures { CallEnds result (IsUtf8 words.now) (IsUtf8 words.now) (¬ (IsUtf8 words.now)) (words_of words.now)
+    ensures { CallEnds result (IsUtf8 words.now) (IsUtf8 words.now) (¬ (IsUtf8 words.now)) (text_words words.now)
         (given name.now format tree.now image.now) (written text.old answer.old) (written text.new answer.new) }
 {
     let asked = match Asked::new(name, format) {
@@ -47,7 +47,7 @@ pub extern "C" fn oopsbox_report(
     answer: &mut ReportAnswer,
 ) -> u32
     ensures { (end : ReportEnd) × (result ≡ status_of end)
-        × CallEnds end (IsUtf8 words.now) (IsUtf8 words.now) (¬ (IsUtf8 words.now)) (words_of words.now)
+        × CallEnds end (IsUtf8 words.now) (IsUtf8 words.now) (¬ (IsUtf8 words.now)) (text_words words.now)
         (given name.now format tree.now image.now) (written text.old answer.old) (written text.new answer.new) }
 {
     let end = report(alloc, name, words, tree, image, format, text, answer);

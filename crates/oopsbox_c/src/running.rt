@@ -1,14 +1,14 @@
 // The whole tool on an image in memory.
 ghost use Rattle.std.specs.Prelude.{IfOk};
 ghost use Rattle.grammar_spec.specs.Words.{texts};
-ghost use Rattle.report_calls.specs.Memory.{image_bytes, text_bytes};
+ghost use Rattle.report_entry.specs.Memory.{image_bytes, text_bytes};
 ghost use Rattle.oopsbox_c.specs.Runs.{IsRun, given, HandsOut, RunEnds};
 
 use crate::End;
 use crate::memory::Script;
-use image_tool::run;
+use commands::run;
 use outside::Bytes;
-use report_calls::{Image, Text, WordsFault, fill, read_words_of};
+use report_entry::{Image, Text, WordsFault, fill, read_words_of};
 use std::alloc::{AllocError, Global};
 
 /// How many bytes an image and a text have.

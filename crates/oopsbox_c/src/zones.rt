@@ -4,7 +4,8 @@ ghost use Rattle.zone_spec.specs.Zones.{IsValidZone};
 ghost use Rattle.zone_spec.specs.Reading.{zone_reading};
 ghost use Rattle.ramoops_layout.specs.Laid.{params_of, zones_of};
 ghost use Rattle.machine_spec.specs.Zones.{zone_bytes};
-ghost use Rattle.oopsbox_c.specs.Zones.{fault_word, PlacesOf, IsLaid, IsNoLayout, TellsLayout, TellsFault, LayoutEnds, TellsReading, ReadsZone, ZoneEnds};
+ghost use Rattle.oopsbox_c.specs.Zones.{fault_word, PlacesOf, IsLaid, IsNoLayout, TellsLayout, TellsFault, LayoutEnds};
+ghost use Rattle.oopsbox_c.specs.Zones.{TellsReading, ReadsZone, ZoneEnds};
 
 use crate::End;
 use crate::places::{LayoutAnswer, ZoneAnswer, ZonePlace, place_of, state_number};
@@ -12,7 +13,7 @@ use prz_read::{Reading, read_zone};
 use prz_region::Probe;
 use ramoops_layout::types::Layout;
 use ramoops_layout::{LayoutError, ParamFault, layout, read_words};
-use report_calls::{WordsFault, fill, read_words_of};
+use report_entry::{WordsFault, fill, read_words_of};
 use std::alloc::{AllocError, Global};
 use zone_spec::{LayoutFault, Zone};
 

@@ -2,7 +2,7 @@
 use Rattle.std.specs.Prelude.{◌≡◌, ℕ, true, false, ◌⊎◌, List, ◌++◌, IsUtf8}
 use Rattle.grammar_spec.specs.Fields.{Text}
 use Rattle.kernel_line.specs.Line.{layout_words, is_closed, HasNoText}
-use Rattle.report_calls.specs.Words.{words_of as text_words}
+use Rattle.report_entry.specs.Words.{text_words}
 use Rattle.oopsbox_page.specs.declared.words.NoWords.{NoWords}
 use Rattle.oopsbox_page.specs.declared.words.NoWords.TheVariants.{Unreadable, Memory}
 
@@ -15,8 +15,8 @@ pub record IsReadable (line text : List ℕ) : Type 0 where
 abbrev pub IsUnreadable : List ℕ → List ℕ → Type 0
 IsUnreadable line text = (is_closed line ≡ false) ⊎ HasNoText line ⊎ (¬ (IsUtf8 text))
 
-abbrev pub words_of : List ℕ → List ℕ → List Text
-words_of line text = layout_words line ++ text_words text
+abbrev pub asked_words : List ℕ → List ℕ → List Text
+asked_words line text = layout_words line ++ text_words text
 
 abbrev pub IsUnread : List ℕ → List ℕ → NoWords → Type 0
 IsUnread line text Unreadable = IsUnreadable line text

@@ -1,11 +1,11 @@
 // The call that the page makes.
 ghost use Rattle.std.specs.Prelude.{◌≡◌, IsUtf8};
-ghost use Rattle.report_calls.specs.Answers.{status_of};
-ghost use Rattle.report_calls.specs.Calls.{CallEnds, given, written};
-ghost use Rattle.oopsbox_page.specs.Words.{IsReadable, IsUnreadable, words_of};
+ghost use Rattle.report_entry.specs.Answers.{status_of};
+ghost use Rattle.report_entry.specs.Calls.{CallEnds, given, written};
+ghost use Rattle.oopsbox_page.specs.Words.{IsReadable, IsUnreadable, asked_words};
 
 use crate::words::{NoWords, line_words};
-use report_calls::{Asked, ReportAnswer, ReportEnd, report_in};
+use report_entry::{Asked, ReportAnswer, ReportEnd, report_in};
 use std::alloc::Global;
 
 fn report(
@@ -21,7 +21,7 @@ fn report(
 ) -> ReportEnd
     ensures { CallEnds result (IsUtf8 words.now) (IsReadable line.now words.now)
         (IsUnreadable line.now words.now)
-        (words_of line.now words.now) (given name.now format tree.now image.now) (written text.old answer.old)
+        (asked_words line.now words.now) (given name.now format tree.now image.now) (written text.old answer.old)
         (written text.new answer.new) }
 {
     let asked = match Asked::new(name, format) {
@@ -56,7 +56,7 @@ pub extern "C" fn oopsbox_page_report(
     ensures { (end : ReportEnd) × (result ≡ status_of end)
         × CallEnds end (IsUtf8 words.now) (IsReadable line.now words.now)
         (IsUnreadable line.now words.now)
-        (words_of line.now words.now) (given name.now format tree.now image.now) (written text.old answer.old)
+        (asked_words line.now words.now) (given name.now format tree.now image.now) (written text.old answer.old)
         (written text.new answer.new) }
 {
     let end = report(alloc, line, name, words, tree, image, format, text, answer);

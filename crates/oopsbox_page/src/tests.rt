@@ -1,6 +1,6 @@
 // The page's call on its happy path, and its refusals.
 use crate::*;
-use report_calls::ReportAnswer;
+use report_entry::ReportAnswer;
 use std::test::Fail;
 
 const LINE: &[u8] =

@@ -1,10 +1,10 @@
 // The words of a kernel's command line and of a text.
 ghost use Rattle.std.specs.Prelude.{◌≡◌, [], ◌++◌, MatchResult, OnOk};
 ghost use Rattle.grammar_spec.specs.Words.{texts};
-ghost use Rattle.oopsbox_page.specs.Words.{IsReadable, IsUnread, words_of};
+ghost use Rattle.oopsbox_page.specs.Words.{IsReadable, IsUnread, asked_words};
 
 use kernel_line::{LineFault, add_layout_words};
-use report_calls::{WordsFault, read_some_words};
+use report_entry::{WordsFault, read_some_words};
 use std::alloc::{AllocError, Global};
 
 /// Why there are no words.
@@ -25,7 +25,7 @@ fn add_each(words: &mut Vec<String>, mut more: Vec<String>) -> Result<(), AllocE
 /// with one space between.
 pub fn line_words(alloc: Global, line: &[u8], text: &[u8]) -> Result<Vec<String>, NoWords>
     ensures { MatchResult result
-        (λ words. IsReadable line.now text.now × (texts words.items ≡ words_of line.now text.now))
+        (λ words. IsReadable line.now text.now × (texts words.items ≡ asked_words line.now text.now))
         (IsUnread line.now text.now) }
 {
     let more = match read_some_words(alloc, text) {

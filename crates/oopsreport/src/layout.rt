@@ -6,7 +6,7 @@ use found_regions::{first_address, place_asked};
 use grammar_spec::ParamFault;
 use kernel_line::{KernelLine, LineFault};
 use ramoops_layout::given;
-use report_calls::{NoLayouts, sought};
+use report_entry::{NoLayouts, sought};
 use report_tool::{Found, Known, Plan, PlanFault, TreeFault, add_tag, ftrace_tag};
 use std::alloc::{AllocError, Global};
 use std::io::ErrorKind;

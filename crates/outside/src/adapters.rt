@@ -3,7 +3,8 @@ ghost use Rattle.std.specs.Prelude.{◌≡◌, ◌+◌, ◌<◌, length, IfOk, O
 ghost use Rattle.std.specs.Io.{ReadsAtMost};
 ghost use Rattle.std.specs.Io.KnownBytes.{Appends, ReadConsumes};
 ghost use Rattle.outside.specs.Outside.{HasCause, AppendsFront};
-ghost use Rattle.outside.specs.Adapters.{source_reader, reader_faults, sink_writer, writer_faults, load_path, load_faults, file_path, file_faults, file_writes};
+ghost use Rattle.outside.specs.Adapters.{source_reader, reader_faults, sink_writer, writer_faults, load_path};
+ghost use Rattle.outside.specs.Adapters.{load_faults, file_path, file_faults, file_writes};
 
 use crate::{Failed, Load, Sink, Source, Store};
 use std::alloc::{AllocError, Global};

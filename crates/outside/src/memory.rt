@@ -1,5 +1,6 @@
 // A source, a sink and a store in memory, which fail where they are told to.
-ghost use Rattle.std.specs.Prelude.{◌≡◌, ◌+◌, ◌-◌, ◌/◌, ◌<◌, ◌≤◌, min, [], ◌++◌, Some, length, take, drop, vec_len, vec_capacity, is_err, IfOk, OnOk, MatchResult};
+ghost use Rattle.std.specs.Prelude.{◌≡◌, ◌+◌, ◌-◌, ◌/◌, ◌<◌, ◌≤◌, min, [], ◌++◌, Some, length, take, drop, vec_len};
+ghost use Rattle.std.specs.Prelude.{vec_capacity, is_err, IfOk, OnOk, MatchResult};
 ghost use Rattle.std.specs.Io.{ReadsAtMost};
 ghost use Rattle.std.specs.Io.KnownBytes.{Appends, ReadConsumes};
 ghost use Rattle.outside.specs.Bytes.{AreBytes, AreBytes-drop};
@@ -259,7 +260,8 @@ impl Load for MemStore {
 }
 
 impl Store for MemStore {
-    ghost use Rattle.outside.specs.Memory.{store_holds, store_limit, store_calls, store_writes, store_read_faults, fails_at, part_written};
+    ghost use Rattle.outside.specs.Memory.{store_holds, store_limit, store_calls, store_writes, store_read_faults};
+    ghost use Rattle.outside.specs.Memory.{fails_at, part_written};
 
     fn write_at(&mut self, at: u64, bytes: &[u8]) -> Result<(), Failed>
         requires { at ≤ length (store_holds self.old) }

@@ -1,5 +1,6 @@
 -- A month or a year on
-use Rattle.std.proofs.Common.{◌≡◌, ℕ, zero, suc, ◌+◌, ◌-◌, ◌<◌, ◌≤◌, false, true, cond, refl, ap, ap₂, ◌∙◌, arith, nat_lt}
+use Rattle.std.proofs.Common.{◌≡◌, ℕ, zero, suc, ◌+◌, ◌-◌, ◌<◌, ◌≤◌, false, true, cond, refl, ap, ap₂, ◌∙◌, arith}
+use Rattle.std.proofs.Common.{nat_lt}
 use Rattle.std.proofs.lemmas.Bool.{lt-ltb, le-ltb}
 use Rattle.pmsg_spec.specs.declared.Date.{Date}
 use Rattle.pmsg_spec.specs.Calendar.{month_len, year_len, in_year, in_years}

@@ -1,6 +1,7 @@
 // The date of a day.
 ghost use Rattle.std.specs.Prelude.{◌≡◌, ◌<◌, ◌≤◌};
-ghost use Rattle.pmsg_spec.specs.Calendar.{is_leap as is_leap_year, year_len as len_of_year, month_len as len_of_month, in_year as date_in_year, date_of as date_is};
+ghost use Rattle.pmsg_spec.specs.Calendar.{is_leap as is_leap_year, year_len as len_of_year, month_len as len_of_month};
+ghost use Rattle.pmsg_spec.specs.Calendar.{in_year as date_in_year, date_of as date_is};
 
 use pmsg_spec::Date;
 

@@ -1,6 +1,8 @@
 // The entries.
 ghost use Rattle.std.specs.Prelude.{◌≡◌, ◌+◌, ◌^◌, ◌<◌, ◌≤◌, length, drop, replicate, true, IfOk};
-ghost use Rattle.pmsg_spec.specs.Entries.{half as half_at, word as word_at, is_entry as is_entry_of, entry_len as len_of, entry_of as entry_is, are_entries, listed, entries as entries_are};
+ghost use Rattle.pmsg_spec.specs.Entries.{half as half_at, word as word_at, is_entry as is_entry_of};
+ghost use Rattle.pmsg_spec.specs.Entries.{entry_len as len_of, entry_of as entry_is, are_entries, listed};
+ghost use Rattle.pmsg_spec.specs.Entries.{entries as entries_are};
 ghost use Rattle.pmsg.specs.Follow.{FollowFrom};
 
 use crate::payloads::tail;

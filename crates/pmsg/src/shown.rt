@@ -2,7 +2,9 @@
 ghost use Rattle.std.specs.Prelude.{◌≡◌, ◌++◌, ◌∷◌, [], ◌<◌, ◌≤◌, ◌+◌, ◌^◌, All, length, IfOk, OnOk};
 ghost use Rattle.pmsg_spec.specs.declared.Entry.{Entry as EntryValue};
 ghost use Rattle.pmsg_spec.specs.Payloads.{payload as payload_of};
-ghost use Rattle.pmsg_spec.specs.Lines.{digit as digit_of, digit_or_blank as blank_or_digit, date_text as text_of_date, clock_text as text_of_clock, column_text, when_text, head_text, tabbed_byte, tabbed, line_by, line_text, lines_text};
+ghost use Rattle.pmsg_spec.specs.Lines.{digit as digit_of, digit_or_blank as blank_or_digit, date_text as text_of_date};
+ghost use Rattle.pmsg_spec.specs.Lines.{clock_text as text_of_clock, column_text, when_text, head_text, tabbed_byte};
+ghost use Rattle.pmsg_spec.specs.Lines.{tabbed, line_by, line_text, lines_text};
 
 use crate::calendar::date_of;
 use crate::payloads::split_payload;

@@ -1,7 +1,8 @@
 -- The entries of Android's log in the bytes of a pmsg zone. An entry is a header of 18 bytes and a payload: the magic
 -- byte `l`, the length of the whole entry, user and process (android_pmsg_log_header_t), then the log, the thread, and
 -- the time in seconds and nanoseconds (android_log_header_t), all little-endian and packed
-use Rattle.std.specs.Prelude.{ℕ, zero, suc, ◌+◌, ◌-◌, ◌==◌, nat_lt, nat_le, Bool, ◌&&◌, if◌then◌else◌, List, [], ◌∷◌, length, slice_index}
+use Rattle.std.specs.Prelude.{ℕ, zero, suc, ◌+◌, ◌-◌, ◌==◌, nat_lt, nat_le, Bool, ◌&&◌, if◌then◌else◌, List, [], ◌∷◌}
+use Rattle.std.specs.Prelude.{length, slice_index}
 use Rattle.std.specs.Int.{w16, w32, from_le_bytes}
 use Rattle.pmsg_spec.specs.declared.Entry.{Entry}
 

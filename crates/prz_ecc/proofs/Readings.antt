@@ -1,9 +1,11 @@
 -- A part's reading, by what the decoder answers of its word
-use Rattle.std.proofs.Common.{◌≡◌, ℕ, zero, suc, ◌+◌, ◌-◌, ◌≤◌, List, [], ◌++◌, length, take, drop, refl, sym, ap, subst, subst₂, ◌∙◌, arith, Option, Some, None, unwrap_or, length-drop, length-take, Bool, true, eqb, IsTrue}
+use Rattle.std.proofs.Common.{◌≡◌, ℕ, zero, suc, ◌+◌, ◌-◌, ◌≤◌, List, [], ◌++◌, length, take, drop, refl, sym, ap}
+use Rattle.std.proofs.Common.{subst, subst₂, ◌∙◌, arith, Option, Some, None, unwrap_or, length-drop, length-take, Bool}
+use Rattle.std.proofs.Common.{true, eqb, IsTrue}
 use Rattle.std.proofs.lemmas.Bool.{eqb-true}
 use Rattle.std.specs.Prelude.{slice_range}
 use Rattle.std.proofs.Math.Seq.{take-append_seam}
-use Rattle.code_spec.specs.Code.{IsCodeword, nearest, is_codeword, distance, parity_of, the_word, words_of}
+use Rattle.code_spec.specs.Code.{IsCodeword, nearest, is_codeword, distance, parity_of, the_word, all_words}
 use Rattle.zone_spec.specs.declared.Zone.{Zone}
 use Rattle.zone_spec.specs.Parts.{Part, part_at, part_len, part_parity_at, part_bytes, part_word}
 use Rattle.zone_spec.specs.PartReadings.{part_reading, reading_by}
@@ -14,7 +16,7 @@ use Rattle.prz_ecc.specs.Outcomes.{outcome, part_word_fixes, CountsAre, IsPartEx
 
 -- ---- without parity
 pub parity_of-none : (r : ℕ) (m : List ℕ) → r ≡ 0 → parity_of r m ≡ []
-unfolding parity_of the_word words_of is_codeword
+unfolding parity_of the_word all_words is_codeword
 parity_of-none r m e = ap (λ (k : ℕ). parity_of k m) e
 
 pub nearest-none : (r : ℕ) (w : List ℕ) → r ≡ 0 → nearest r w ≡ Some w

@@ -2,12 +2,14 @@
 //! (`fs/pstore/ram_core.c`, `persistent_ram_decode_rs8` and `persistent_ram_encode_rs8`).
 #![tactic(auto)]
 
-ghost use Rattle.std.specs.Prelude.{◌≡◌, ◌+◌, ◌*◌, ◌-◌, ◌<◌, ◌≤◌, ◌↔◌, ℕ, ◌++◌, length, take, min, slice_range, unwrap_or, IsTrue};
+ghost use Rattle.std.specs.Prelude.{◌≡◌, ◌+◌, ◌*◌, ◌-◌, ◌<◌, ◌≤◌, ◌↔◌, ℕ, ◌++◌, length, take, min, slice_range};
+ghost use Rattle.std.specs.Prelude.{unwrap_or, IsTrue};
 ghost use Rattle.code_spec.specs.Code.{IsCodeword, nearest, parity_of};
 ghost use Rattle.rs_encode.specs.Lanes.{IsLent};
 ghost use Rattle.rs_decode.specs.Decoding.{decoded_by, fixes_by, IsExcess};
 ghost use Rattle.zone_spec.specs.Zones.{IsValidZone};
-ghost use Rattle.zone_spec.specs.Parts.{Header, Block, part_at, part_len, part_parity_at, part_bytes, part_word, words_in};
+ghost use Rattle.zone_spec.specs.Parts.{Header, Block, part_at, part_len, part_parity_at, part_bytes, part_word};
+ghost use Rattle.zone_spec.specs.Parts.{words_in};
 ghost use Rattle.std.specs.Int.{from_le_bytes};
 ghost use Rattle.std.proofs.Common.{w32};
 ghost use Rattle.zone_spec.specs.PartReadings.{part_reading, words_read};

@@ -1,5 +1,7 @@
 -- The front of a zone's data as its blocks read, and the counts of these blocks
-use Rattle.std.proofs.Common.{◌≡◌, ℕ, ◌+◌, ◌-◌, ◌*◌, ◌%◌, ◌<◌, ◌≤◌, min, List, [], ◌++◌, length, take, drop, map, get_or, Bool, true, false, not, ◌==◌, nat_lt, ◌&&◌, if◌then◌else◌, refl, sym, ap, ap₂, ◌∙◌, arith, mul_comm, ◌||◌}
+use Rattle.std.proofs.Common.{◌≡◌, ℕ, ◌+◌, ◌-◌, ◌*◌, ◌%◌, ◌<◌, ◌≤◌, min, List, [], ◌++◌, length, take, drop, map}
+use Rattle.std.proofs.Common.{get_or, Bool, true, false, not, ◌==◌, nat_lt, ◌&&◌, if◌then◌else◌, refl, sym, ap, ap₂}
+use Rattle.std.proofs.Common.{◌∙◌, arith, mul_comm, ◌||◌}
 use Rattle.std.specs.List.{range_with_len}
 use Rattle.std.specs.Prelude.{slice_index}
 use Rattle.std.proofs.lemmas.List.{map-append}

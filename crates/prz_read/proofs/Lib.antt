@@ -5,8 +5,8 @@ pub mod Fronts
 pub mod States
 pub mod Saves
 pub mod Tails
-pub mod Sourcing
-pub mod Passing
-pub mod Uncorrected
-pub mod Pushing
-pub mod Numbered
+pub mod LogSources
+pub mod LimitedBoot
+pub mod NoCorrections
+pub mod BlockList
+pub mod ZoneNumbers

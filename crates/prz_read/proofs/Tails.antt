@@ -1,5 +1,7 @@
 -- The bytes after a log that its last block reads, and the log turned back
-use Rattle.std.proofs.Common.{◌≡◌, ℕ, ◌+◌, ◌-◌, ◌*◌, ◌/◌, ◌%◌, ◌<◌, ◌≤◌, min, List, [], ◌++◌, length, take, drop, sym, ap, ap₂, ◌∙◌, subst, arith, length-take, length-drop, length-append, take-append-drop, take_all, append_assoc}
+use Rattle.std.proofs.Common.{◌≡◌, ℕ, ◌+◌, ◌-◌, ◌*◌, ◌/◌, ◌%◌, ◌<◌, ◌≤◌, min, List, [], ◌++◌, length, take, drop, sym}
+use Rattle.std.proofs.Common.{ap, ap₂, ◌∙◌, subst, arith, length-take, length-drop, length-append, take-append-drop}
+use Rattle.std.proofs.Common.{take_all, append_assoc}
 use Rattle.std.proofs.Math.Seq.{take-append_seam, drop-append_seam}
 use Rattle.std.proofs.lemmas.List.{append-nil}
 use Rattle.std.proofs.lemmas.Grind.{div_ceil_times}

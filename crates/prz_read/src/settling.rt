@@ -1,5 +1,6 @@
 // The stores of a boot in a zone: those that zone_boot hands out are made, up to a limit.
-ghost use Rattle.std.specs.Prelude.{◌≡◌, ◌+◌, ◌-◌, ◌*◌, ◌≤◌, ◌<◌, ◌^◌, ◌++◌, ℕ, List, [], length, min, take, drop, if◌then◌else◌};
+ghost use Rattle.std.specs.Prelude.{◌≡◌, ◌+◌, ◌-◌, ◌*◌, ◌≤◌, ◌<◌, ◌^◌, ◌++◌, ℕ, List, [], length, min, take, drop};
+ghost use Rattle.std.specs.Prelude.{if◌then◌else◌};
 ghost use Rattle.std.specs.Int.{to_le_bytes};
 ghost use Rattle.std.proofs.Common.{w32};
 ghost use Rattle.zone_spec.specs.Zones.{IsValidZone};

@@ -1,5 +1,6 @@
 -- What a caller needs of several stores in a row
-use Rattle.std.proofs.Common.{◌≡◌, ℕ, zero, suc, ◌+◌, ◌<◌, List, [], ◌∷◌, ◌++◌, append_assoc, append-nil, get_or, get_or-set_same, get_or-set_other, length, length-set, sym, ap, ap₂, set, refl, ◌∙◌}
+use Rattle.std.proofs.Common.{◌≡◌, ℕ, zero, suc, ◌+◌, ◌<◌, List, [], ◌∷◌, ◌++◌, append_assoc, append-nil, get_or}
+use Rattle.std.proofs.Common.{get_or-set_same, get_or-set_other, length, length-set, sym, ap, ap₂, set, refl, ◌∙◌}
 use Rattle.std.proofs.lemmas.List.{map-append, set-get_or}
 use lib.Seq.{set-set}
 use Rattle.zone_spec.specs.Stores.{Store, put, after_stores}

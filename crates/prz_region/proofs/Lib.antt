@@ -4,7 +4,7 @@ pub mod Names
 pub mod Rows
 pub mod Shells
 pub mod Chains
-pub mod Cutting
+pub mod CutLoop
 pub mod Cuts
 pub mod Stores
 pub mod Headers

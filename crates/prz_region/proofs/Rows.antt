@@ -1,5 +1,6 @@
 -- Full rows, cut and glued.
-use Rattle.prz_region.proofs.Names.{◌≡◌, ◌∙◌, Bool, false, ⊎_elim, ℕ, ◌+◌, ◌-◌, ◌≤◌, arith, List, ◌++◌, length, take, drop_l, get_or-append, get_or-append_right, get_or-take, get_or-drop, Filled}
+use Rattle.prz_region.proofs.Names.{◌≡◌, ◌∙◌, Bool, false, ⊎_elim, ℕ, ◌+◌, ◌-◌, ◌≤◌, arith, List, ◌++◌, length, take}
+use Rattle.prz_region.proofs.Names.{drop_l, get_or-append, get_or-append_right, get_or-take, get_or-drop, Filled}
 use Rattle.core.proofs.str.Laws.{order}
 
 pub filled-append : (fs gs : List Bool) (n k : ℕ) → length fs ≡ n → Filled fs 0 n → Filled gs 0 k

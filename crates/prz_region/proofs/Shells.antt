@@ -1,5 +1,7 @@
 -- What a `Shell` owns is made, and taken apart. Assumes `Logic`.
-use Rattle.prz_region.proofs.Names.{◌≡◌, refl, sym, ap, ◌∙◌, ℕ, ◌-◌, ◌*◌, ◌<◌, ◌^◌, List, [], ◌∷◌, ◌++◌, w64, Val, WT, vint, vptr, vstruct, vcons, vnil, ‵, ◌$◌, move, drop, rewrite, fsplit, fjoin, RattleType, Ptr, block_ptr, nothing, El}
+use Rattle.prz_region.proofs.Names.{◌≡◌, refl, sym, ap, ◌∙◌, ℕ, ◌-◌, ◌*◌, ◌<◌, ◌^◌, List, [], ◌∷◌, ◌++◌, w64, Val, WT}
+use Rattle.prz_region.proofs.Names.{vint, vptr, vstruct, vcons, vnil, ‵, ◌$◌, move, drop, rewrite, fsplit, fjoin}
+use Rattle.prz_region.proofs.Names.{RattleType, Ptr, block_ptr, nothing, El}
 use seplogic.Ra.Ura.{Ura}
 use lib.Dec.{T}
 use mir.Val.{of_list, has_ty}

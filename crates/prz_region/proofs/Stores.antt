@@ -1,5 +1,6 @@
 -- What a store of zone_spec makes of a list, as the list's parts and as single bytes
-use Rattle.std.proofs.Common.{◌≡◌, ℕ, ◌+◌, ◌<◌, ◌≤◌, zero, suc, w32, lit<, refl, List, [], ◌∷◌, ◌++◌, length, get_or, set, take, drop, sym, ap, ◌∙◌, arith, append_assoc, add-one, add-zero, length-set}
+use Rattle.std.proofs.Common.{◌≡◌, ℕ, ◌+◌, ◌<◌, ◌≤◌, zero, suc, w32, lit<, refl, List, [], ◌∷◌, ◌++◌, length, get_or}
+use Rattle.std.proofs.Common.{set, take, drop, sym, ap, ◌∙◌, arith, append_assoc, add-one, add-zero, length-set}
 use lib.ListN.{take-append-drop}
 use mathlib.Core.List.{append-nil}
 use Rattle.std.proofs.lemmas.List.{drop-set-lt, drop_more}

@@ -1,5 +1,6 @@
 // A region, and the spans that it is cut into.
-ghost use Rattle.std.specs.Prelude.{◌≡◌, ℕ, ◌+◌, ◌<◌, ◌≤◌, ◌++◌, ◌∷◌, [], List, length, drop, slice_index, slice_range, slice_set, Some, MatchResult};
+ghost use Rattle.std.specs.Prelude.{◌≡◌, ℕ, ◌+◌, ◌<◌, ◌≤◌, ◌++◌, ◌∷◌, [], List, length, drop, slice_index, slice_range};
+ghost use Rattle.std.specs.Prelude.{slice_set, Some, MatchResult};
 ghost use Rattle.std.specs.Int.{to_le_bytes, from_le_bytes};
 ghost use Rattle.std.proofs.Common.{w32};
 ghost use Rattle.std.specs.List.{concat};

@@ -1,4 +1,4 @@
 -- What a flight stands for, and what its stores make of a span. The functions of `Flight` cite
 -- them.
-pub mod Whole
-pub mod Making
+pub mod CallSteps
+pub mod SpanStores

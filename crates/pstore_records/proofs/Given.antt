@@ -1,18 +1,20 @@
 -- What is given of the record of a name, from what its zones show
-use Rattle.std.proofs.Common.{◌≡◌, ℕ, ◌+◌, Bool, true, false, not, List, [], ◌∷◌, ◌++◌, length, refl, sym, ap, ◌∙◌, Option, Some, None, length-append}
+use Rattle.std.proofs.Common.{◌≡◌, ℕ, ◌+◌, Bool, true, false, not, List, [], ◌∷◌, ◌++◌, length, refl, sym, ap, ◌∙◌}
+use Rattle.std.proofs.Common.{Option, Some, None, length-append}
 use Rattle.std.specs.Prelude.{filter, ◌==◌, if◌then◌else◌, slice_get}
 use Rattle.std.specs.Option.{option_map, option_and_then, IsSome}
 use Rattle.std.proofs.lemmas.Bool.{and_parts}
 use Rattle.std.proofs.lemmas.Bool.Decides.{Decides-eqb}
 use Rattle.zone_spec.specs.declared.Kind.TheVariants.{Console, Ftrace, Pmsg}
 use Rattle.zone_spec.specs.declared.Name.{Name}
-use Rattle.zone_spec.specs.declared.Name.TheVariants.{Dump as DumpName, Console as ConsoleName, Pmsg as PmsgName, Ftrace as FtraceName}
+use Rattle.zone_spec.specs.declared.Name.TheVariants.{Dump as DumpName, Console as ConsoleName, Pmsg as PmsgName}
+use Rattle.zone_spec.specs.declared.Name.TheVariants.{Ftrace as FtraceName}
 use Rattle.zone_spec.specs.Ftrace.{merged}
 use Rattle.zone_spec.specs.Names.{is_name}
 use Rattle.zone_spec.specs.Notices.{notice, content}
 use Rattle.zone_spec.specs.Records.{Saved, Listed, logs_of, plain, ftrace_of, listed_of, first_listed, record_of}
 use Rattle.pstore_records.specs.Contents.{parts_of, alone}
-use Rattle.pstore_records.proofs.Named.{named-console, named-pmsg, named-ftrace}
+use Rattle.pstore_records.proofs.OneName.{named-console, named-pmsg, named-ftrace}
 
 -- the record of one of the logs of a kind
 plain-first : (name : Name) (logs : List (List ℕ)) → parts_of (first_listed (plain name logs))

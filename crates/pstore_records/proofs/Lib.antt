@@ -5,10 +5,10 @@ pub mod Additive
 pub mod Lengths
 pub mod Merges
 pub mod Texts
-pub mod Moved
-pub mod Forgetting
-pub mod Named
-pub mod Finding
+pub mod RecordFit
+pub mod UnfitLogs
+pub mod OneName
+pub mod DumpNumbers
 pub mod Given
-pub mod Alone
+pub mod OwnDumpZone
 pub mod Sources

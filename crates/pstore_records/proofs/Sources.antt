@@ -1,5 +1,6 @@
 -- The sources that zones give, end to end. For the calls of `walk`.
-use Rattle.std.proofs.Common.{◌≡◌, ℕ, zero, suc, ◌+◌, ◌<◌, Bool, true, false, List, [], ◌∷◌, ◌++◌, map, length, take, refl, sym, ap, ap₂, subst, ◌∙◌, arith, append-nil, append_assoc, Option, Some, None}
+use Rattle.std.proofs.Common.{◌≡◌, ℕ, zero, suc, ◌+◌, ◌<◌, Bool, true, false, List, [], ◌∷◌, ◌++◌, map, length, take}
+use Rattle.std.proofs.Common.{refl, sym, ap, ap₂, subst, ◌∙◌, arith, append-nil, append_assoc, Option, Some, None}
 use Rattle.std.specs.Prelude.{flat_map, if◌then◌else◌, slice_get, option_to_list, IfSome}
 use Rattle.std.specs.List.{All, zip}
 use Rattle.std.proofs.lemmas.List.{map-append}
@@ -18,7 +19,7 @@ use Rattle.pstore_records.specs.Counts.{zones_of}
 use Rattle.pstore_records.specs.Tables.{numbers_rise}
 use Rattle.pstore_records.specs.Walks.{own_records, listed_in, IsCounted, AreSources}
 use Rattle.pstore_records.proofs.Additive.{dumps_of-append, logs_of-append}
-use Rattle.pstore_records.proofs.Moved.{own-zone}
+use Rattle.pstore_records.proofs.RecordFit.{own-zone}
 use Rattle.pstore_records.proofs.Steps.{item-at}
 
 pub no-sources : (zones : List Saved) → AreSources zones [] []

@@ -1,5 +1,6 @@
 // The one walk over the saved logs: where each listed record stands.
-ghost use Rattle.std.specs.Prelude.{◌≡◌, ◌<◌, ◌^◌, ◌++◌, [], ◌∷◌, List, if◌then◌else◌, length, map, slice_get, Some, None, option_to_list, IfOk, IfSome, OnOk};
+ghost use Rattle.std.specs.Prelude.{◌≡◌, ◌<◌, ◌^◌, ◌++◌, [], ◌∷◌, List, if◌then◌else◌, length, map, slice_get, Some};
+ghost use Rattle.std.specs.Prelude.{None, option_to_list, IfOk, IfSome, OnOk};
 ghost use Rattle.zone_spec.specs.Records.{Saved, Listed, dumps_of, plain, ftrace_of, listed_of, logs_of};
 ghost use Rattle.prz_read.specs.Saving.{saved};
 ghost use Rattle.pstore_records.specs.Counts.{has_parity, corrected_in, bad_in};

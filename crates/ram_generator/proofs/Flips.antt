@@ -1,5 +1,6 @@
 -- Flips made one behind another. `make_flip` and `make_damage` cite them.
-use Rattle.std.proofs.Common.{◌≡◌, ℕ, ◌+◌, ◌<◌, ◌≤◌, true, false, nat_lt, List, [], length, drop, get_or, fold, refl, sym, ap, ◌∙◌, arith, slice_index, bit_xor}
+use Rattle.std.proofs.Common.{◌≡◌, ℕ, ◌+◌, ◌<◌, ◌≤◌, true, false, nat_lt, List, [], length, drop, get_or, fold, refl}
+use Rattle.std.proofs.Common.{sym, ap, ◌∙◌, arith, slice_index, bit_xor}
 use Rattle.std.proofs.lemmas.Bool.{lt-ltb, le-ltb}
 use Rattle.std.proofs.lemmas.List.{length-set}
 use Rattle.ramoops_layout.proofs.LaidOut.{drop_next}

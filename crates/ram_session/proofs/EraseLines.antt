@@ -1,5 +1,6 @@
 -- The line that erases a record
-use Rattle.std.proofs.Common.{◌≡◌, ℕ, zero, suc, ◌+◌, ◌≤◌, Bool, true, false, cond, List, [], ◌∷◌, map, zip, length, slice_get, slice_set, Option, Some, None, Ok, Err, refl, sym, ap, ◌∙◌, arith}
+use Rattle.std.proofs.Common.{◌≡◌, ℕ, zero, suc, ◌+◌, ◌≤◌, Bool, true, false, cond, List, [], ◌∷◌, map, zip, length}
+use Rattle.std.proofs.Common.{slice_get, slice_set, Option, Some, None, Ok, Err, refl, sym, ap, ◌∙◌, arith}
 use Rattle.std.specs.Option.{option_map}
 use Rattle.std.proofs.lemmas.List.{length-set}
 use Rattle.zone_spec.specs.declared.Zone.{Zone}
@@ -12,12 +13,13 @@ use Rattle.zone_spec.specs.Listing.{is_listed}
 use Rattle.machine_spec.specs.States.{LiveZone, LiveState, Off as OffOf, Live as LiveOf}
 use Rattle.machine_spec.specs.LiveZones.{flies}
 use Rattle.machine_spec.specs.Erasures.{saved_logs, erase_zone, erased}
-use Rattle.machine_laws.proofs.Listed.{found_is_listed}
+use Rattle.machine_laws.proofs.ListedRecords.{found_is_listed}
 use Rattle.prz_read.specs.Saving.{SavedLogs, saved}
 use Rattle.ramoops.specs.LiveSeen.{LiveSeen, StandsLive}
 use Rattle.grammar_spec.specs.declared.line.Line.TheVariants.{Erase}
 use Rattle.script_spec.specs.Scripts.{store_line, named, erases_of}
-use Rattle.script_spec.specs.declared.Cause.TheVariants.{IsOff, IsLive, NoZone, Busy, Idle, OutOfImage, NoRecord, NotHere, TooLong, NoSeat, Crowded, NoRing}
+use Rattle.script_spec.specs.declared.Cause.TheVariants.{IsOff, IsLive, NoZone, Busy, Idle, OutOfImage, NoRecord}
+use Rattle.script_spec.specs.declared.Cause.TheVariants.{NotHere, TooLong, NoSeat, Crowded, NoRing}
 use Rattle.ram_session.specs.Erasing.{Erases, Forgets, ErasesNamed, IsBusy, EraseFails}
 use Rattle.ram_session.specs.Sessions.{Live, LineDone, LineRefused, LineFails}
 use Rattle.ram_session.specs.declared.machine.LineError.{LineError}

@@ -1,5 +1,7 @@
 -- The zones of a record erased, one behind the other, and their logs forgotten
-use Rattle.std.proofs.Common.{◌≡◌, ℕ, zero, suc, ◌+◌, ◌<◌, ◌≤◌, Bool, true, false, ◌&&◌, ◌||◌, if◌then◌else◌, is_some, List, [], ◌∷◌, map, zip, length, slice_get, slice_set, Option, Some, None, Result, Ok, Err, refl, sym, ap, ◌∙◌, arith, ◌⊎◌, inl, inr, OnOk, IfErr}
+use Rattle.std.proofs.Common.{◌≡◌, ℕ, zero, suc, ◌+◌, ◌<◌, ◌≤◌, Bool, true, false, ◌&&◌, ◌||◌, if◌then◌else◌, is_some}
+use Rattle.std.proofs.Common.{List, [], ◌∷◌, map, zip, length, slice_get, slice_set, Option, Some, None, Result, Ok}
+use Rattle.std.proofs.Common.{Err, refl, sym, ap, ◌∙◌, arith, ◌⊎◌, inl, inr, OnOk, IfErr}
 use Rattle.std.specs.Option.{option_map}
 use Rattle.std.proofs.lemmas.Bool.{cases_lt}
 use Rattle.std.specs.List.{list_any}
@@ -22,7 +24,7 @@ use Rattle.machine_spec.specs.Erasures.{erase_zone}
 use Rattle.machine_spec.specs.Operations.{operated, left_by, Make}
 use Rattle.machine_laws.proofs.Operations.{operations_keep_states_sound}
 use Rattle.ramoops.specs.LiveSeen.{LiveSeen, StandsLive}
-use Rattle.tool_laws.proofs.Steps.{erase_made}
+use Rattle.script_laws.proofs.Steps.{erase_made}
 use Rattle.ram_session.specs.Answers.{Done, IsRefused}
 use Rattle.ram_session.specs.Erasing.{FliesAt, StandsAsState, ErasesAt, Erases}
 

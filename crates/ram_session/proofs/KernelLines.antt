@@ -1,5 +1,6 @@
 -- What the kernel prints, and its crashes
-use Rattle.std.proofs.Common.{◌≡◌, ℕ, zero, suc, ◌+◌, ◌-◌, ◌<◌, ◌≤◌, Bool, true, false, nat_le, List, [], ◌∷◌, ◌++◌, length, Option, Some, None, Ok, Err, refl, sym, ap, ◌∙◌, arith, subst}
+use Rattle.std.proofs.Common.{◌≡◌, ℕ, zero, suc, ◌+◌, ◌-◌, ◌<◌, ◌≤◌, Bool, true, false, nat_le, List, [], ◌∷◌, ◌++◌}
+use Rattle.std.proofs.Common.{length, Option, Some, None, Ok, Err, refl, sym, ap, ◌∙◌, arith, subst}
 use Rattle.std.specs.Prelude.{not, ◌==◌}
 use Rattle.std.specs.List.{find, slice_get}
 use Rattle.std.proofs.lemmas.Option.{get_or_from_slice_get}
@@ -25,7 +26,8 @@ use Rattle.kmsg_dump.specs.Kept.{IsLine, Keeps}
 use Rattle.grammar_spec.specs.Fields.{is_message}
 use Rattle.grammar_spec.specs.Printed.{HasFields}
 use Rattle.grammar_spec.specs.declared.line.Line.TheVariants.{KMsg, Crash, Dump}
-use Rattle.script_spec.specs.Scripts.{Kernel as KernelOf, beside, prints, crash_body, crashed, log_limit, room_in, dump_target, store_line, line_done}
+use Rattle.script_spec.specs.Scripts.{Kernel as KernelOf, beside, prints, crash_body, crashed, log_limit, room_in}
+use Rattle.script_spec.specs.Scripts.{dump_target, store_line, line_done}
 use Rattle.script_spec.specs.declared.Cause.{Cause}
 use Rattle.script_spec.specs.declared.Cause.TheVariants.{TooLong, NoZone}
 use Rattle.ram_session.specs.Kernels.{StandsForKernel, DumpsAlike, left_in, first_room}

@@ -15,4 +15,4 @@ pub mod Images
 pub mod Listings
 pub mod MoveTexts
 pub mod Sides
-pub mod Called
+pub mod NamedRecord

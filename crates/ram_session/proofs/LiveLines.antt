@@ -1,5 +1,6 @@
 -- Calls as lines, while the machine is live
-use Rattle.std.proofs.Common.{◌≡◌, ℕ, Bool, true, false, cond, is_some, List, [], zip, Option, Some, None, Result, Ok, Err, refl, sym, ap, ◌∙◌}
+use Rattle.std.proofs.Common.{◌≡◌, ℕ, Bool, true, false, cond, is_some, List, [], zip, Option, Some, None, Result, Ok}
+use Rattle.std.proofs.Common.{Err, refl, sym, ap, ◌∙◌}
 use Rattle.zone_spec.specs.declared.Zone.{Zone}
 use Rattle.zone_spec.specs.declared.ZoneName.{ZoneName}
 use Rattle.zone_spec.specs.declared.Time.{Time}
@@ -9,15 +10,17 @@ use Rattle.zone_spec.specs.Reading.{ZoneReading}
 use Rattle.machine_spec.specs.States.{LiveState, Off as OffOf, Live as LiveOf}
 use Rattle.machine_spec.specs.LiveZones.{Target, target, changed}
 use Rattle.machine_spec.specs.ZoneCalls.{finished}
-use Rattle.machine_spec.specs.LiveCalls.{Ask, Append, Erase, Dump, asked_name, begin, make, step, finish, finish_at, and_finish, goes_on}
+use Rattle.machine_spec.specs.LiveCalls.{Ask, Append, Erase, Dump, asked_name, begin, make, step, finish, finish_at}
+use Rattle.machine_spec.specs.LiveCalls.{and_finish, goes_on}
 use Rattle.machine_spec.specs.Operations.{answered}
 use Rattle.prz_read.specs.Saving.{SavedLogs}
 use Rattle.ramoops.specs.LiveSeen.{LiveSeen}
 use Rattle.grammar_spec.specs.declared.line.Line.{Line}
-use Rattle.grammar_spec.specs.declared.line.Line.TheVariants.{Write, Dump as DumpLine, BeginWrite, BeginErase, BeginDump, Step, Finish}
+use Rattle.grammar_spec.specs.declared.line.Line.TheVariants.{Write, Dump as DumpLine, BeginWrite, BeginErase}
+use Rattle.grammar_spec.specs.declared.line.Line.TheVariants.{BeginDump, Step, Finish}
 use Rattle.script_spec.specs.Scripts.{store_line, done_or_refused, refusal_cause}
 use Rattle.script_spec.specs.declared.Cause.{Cause}
-use Rattle.tool_laws.proofs.Steps.{calls_keep_logs}
+use Rattle.script_laws.proofs.Steps.{calls_keep_logs}
 use Rattle.ram_session.specs.Answers.{Done, IsRefused, Begun, NotBegun}
 use Rattle.ram_session.specs.Sessions.{Live, LineDone, LineRefused}
 

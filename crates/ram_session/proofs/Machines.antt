@@ -12,7 +12,8 @@ use Rattle.script_spec.specs.Scripts.{Kernel as KernelOf, new_kernel, beside, st
 use Rattle.script_spec.specs.declared.Cause.{Cause}
 use Rattle.script_spec.specs.declared.Cause.TheVariants.{IsLive}
 use Rattle.ram_session.specs.Kernels.{StandsForKernel}
-use Rattle.ram_session.specs.Sessions.{Off as OffStore, Live as LiveStore, LineDone, LineRefused, LineFails, KeepsKernel}
+use Rattle.ram_session.specs.Sessions.{Off as OffStore, Live as LiveStore, LineDone, LineRefused, LineFails}
+use Rattle.ram_session.specs.Sessions.{KeepsKernel}
 use Rattle.ram_session.specs.Machines.{MachineDone, MachineRefused, MachineFails}
 use Rattle.ram_session.specs.declared.kernel.Kernel.{Kernel}
 use Rattle.ram_session.specs.declared.machine.Machine.TheVariants.{Off, Live}

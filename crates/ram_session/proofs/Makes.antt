@@ -13,7 +13,7 @@ use Rattle.machine_spec.specs.LiveCalls.{Ask, asked_name, begin, make, finish, g
 use Rattle.machine_spec.specs.Operations.{Begin, operated, left_by}
 use Rattle.machine_laws.proofs.Operations.{operations_keep_states_sound}
 use Rattle.ramoops.specs.LiveSeen.{LiveSeen}
-use Rattle.tool_laws.proofs.Steps.{make_is_begin_and_steps}
+use Rattle.script_laws.proofs.Steps.{make_is_begin_and_steps}
 use Rattle.ram_session.specs.Answers.{Done, IsRefused, Begun, NotBegun}
 
 begun_sound : (layout : List Zone) (mem : ℕ) (s next : LiveState) (ask : Ask) → IsLayout layout mem

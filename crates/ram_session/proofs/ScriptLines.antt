@@ -10,9 +10,9 @@ use Rattle.grammar_spec.specs.Printed.{AllHaveFields}
 use Rattle.script_spec.specs.Scripts.{Kernel, new_kernel}
 use Rattle.script_spec.specs.declared.LineStop.{LineStop}
 use Rattle.script_spec.specs.declared.LineStop.TheVariants.{Memory, StoreFault, SinkFault, Refused}
-use Rattle.tool_laws.specs.Scripts.{ScriptStatesAreSound}
+use Rattle.script_laws.specs.Scripts.{ScriptStatesAreSound}
 use Rattle.script_spec.specs.Playing.{PlayedTo, PlayStop}
-use Rattle.tool_laws.proofs.Play.{played_none, played_on, played_all, stopped_memory, stopped_refused, stopped_put}
+use Rattle.script_laws.proofs.Play.{played_none, played_on, played_all, stopped_memory, stopped_refused, stopped_put}
 use Rattle.ram_session.specs.Sessions.{Stands}
 use Rattle.ram_session.specs.Machines.{store_of, HasKernel}
 use Rattle.ram_session.specs.Playing.{Puts, LineStops, StandsFresh, PlaysAll}

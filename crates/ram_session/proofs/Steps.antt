@@ -1,5 +1,6 @@
 -- Steps of the machine in a row
-use Rattle.std.proofs.Common.{◌≡◌, ℕ, ◌+◌, ◌-◌, ◌≤◌, Bool, true, false, is_some, List, Option, Some, None, Ok, Err, refl, ap, ◌∙◌, arith}
+use Rattle.std.proofs.Common.{◌≡◌, ℕ, ◌+◌, ◌-◌, ◌≤◌, Bool, true, false, is_some, List, Option, Some, None, Ok, Err}
+use Rattle.std.proofs.Common.{refl, ap, ◌∙◌, arith}
 use Rattle.std.specs.Option.{option_map}
 use Rattle.zone_spec.specs.declared.Zone.{Zone}
 use Rattle.zone_spec.specs.declared.ZoneName.{ZoneName}
@@ -12,8 +13,8 @@ use Rattle.machine_spec.specs.LiveZones.{Target, target}
 use Rattle.machine_spec.specs.LiveCalls.{step, finish}
 use Rattle.machine_spec.specs.ZoneCalls.{stores_left}
 use Rattle.ramoops.specs.LiveSeen.{LiveSeen, StandsLive, Leaves}
-use Rattle.ramoops.proofs.Stepped.{step_nowhere}
-use Rattle.tool_laws.proofs.Steps.{steps_add_up, steps_end, no_steps_leave_state, finish_is_steps}
+use Rattle.ramoops.proofs.StepStates.{step_nowhere}
+use Rattle.script_laws.proofs.Steps.{steps_add_up, steps_end, no_steps_leave_state, finish_is_steps}
 use Rattle.ram_session.specs.Answers.{Done, IsRefused}
 
 -- what is said of a flight in the zone of this name, in every state for which the machine stands

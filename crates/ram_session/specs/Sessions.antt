@@ -11,7 +11,9 @@ use Rattle.ramoops.specs.OffSeen.{OffSeen, StandsOff}
 use Rattle.ramoops.specs.LiveSeen.{LiveSeen, StandsLive}
 use Rattle.grammar_spec.specs.Fields.{Text}
 use Rattle.grammar_spec.specs.declared.line.Line.{Line}
-use Rattle.grammar_spec.specs.declared.line.Line.TheVariants.{Write, Dump, BeginWrite, BeginErase, BeginDump, Step, Finish, KMsg, Crash, Boot, BootPart, Stop, List as ListLine, Extract}
+use Rattle.grammar_spec.specs.declared.line.Line.TheVariants.{Write, Dump, BeginWrite, BeginErase, BeginDump, Step}
+use Rattle.grammar_spec.specs.declared.line.Line.TheVariants.{Finish, KMsg, Crash, Boot, BootPart, Stop}
+use Rattle.grammar_spec.specs.declared.line.Line.TheVariants.{List as ListLine, Extract}
 use Rattle.script_spec.specs.Scripts.{store_line}
 use Rattle.script_spec.specs.declared.Cause.{Cause}
 use Rattle.ram_session.specs.declared.machine.LineError.{LineError}

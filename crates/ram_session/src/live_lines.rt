@@ -3,7 +3,8 @@ ghost use Rattle.std.specs.Prelude.{◌≡◌, [], MatchResult};
 ghost use Rattle.prz_read.specs.Saving.{SavedLogs};
 ghost use Rattle.machine_spec.specs.Sound.{IsTime};
 ghost use Rattle.ram_session.specs.Sessions.{Live as LiveStore, LineDone, LineFails};
-ghost use Rattle.grammar_spec.specs.declared.line.Line.TheVariants.{Write, Dump, BeginWrite, BeginErase, BeginDump, Step, Finish};
+ghost use Rattle.grammar_spec.specs.declared.line.Line.TheVariants.{Write, Dump, BeginWrite, BeginErase, BeginDump};
+ghost use Rattle.grammar_spec.specs.declared.line.Line.TheVariants.{Step, Finish};
 ghost use Rattle.script_spec.specs.Scripts.{refusal_cause};
 
 use crate::calls;

@@ -1,5 +1,6 @@
 -- A call begun in the machine is begun in the state for which it stands
-use Rattle.std.proofs.Common.{◌≡◌, ℕ, ◌<◌, Bool, true, false, cond, ◌||◌, is_some, List, length, slice_get, get_or, [], refl, sym, ap, ◌∙◌, arith, Option, Some, None, Ok, Err}
+use Rattle.std.proofs.Common.{◌≡◌, ℕ, ◌<◌, Bool, true, false, cond, ◌||◌, is_some, List, length, slice_get, get_or, []}
+use Rattle.std.proofs.Common.{refl, sym, ap, ◌∙◌, arith, Option, Some, None, Ok, Err}
 use Rattle.std.proofs.lemmas.Option.{slice_get_within, slice_get-get_or}
 use Rattle.circular_buffer.proofs.Places.{slice_get-some}
 use Rattle.zone_spec.specs.declared.Zone.{Zone}

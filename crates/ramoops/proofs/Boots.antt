@@ -1,5 +1,6 @@
 -- A boot of the machine is one of the states for which it stands
-use Rattle.std.proofs.Common.{◌≡◌, ℕ, ◌+◌, ◌<◌, ◌≤◌, List, [], ◌++◌, length, map, drop, slice_get, slice_range, refl, sym, ap, ◌∙◌, subst, arith, Option, Some, None}
+use Rattle.std.proofs.Common.{◌≡◌, ℕ, ◌+◌, ◌<◌, ◌≤◌, List, [], ◌++◌, length, map, drop, slice_get, slice_range, refl}
+use Rattle.std.proofs.Common.{sym, ap, ◌∙◌, subst, arith, Option, Some, None}
 use Rattle.std.specs.Prelude.{zip}
 use Rattle.std.specs.List.{concat}
 use Rattle.std.specs.Option.{option_map}
@@ -45,7 +46,7 @@ use Rattle.ramoops.specs.Made.{boot_writes}
 use Rattle.ramoops.specs.Booting.{SpansFit, held_after, PreparesTo, AreLogs, SettlesTo, IsOpen, seen_off}
 use Rattle.ramoops.specs.Booted.{Booted}
 use Rattle.ramoops.specs.Resting.{IsResting}
-use Rattle.ramoops.proofs.Listed.{all_len}
+use Rattle.ramoops.proofs.KnownZones.{all_len}
 use Rattle.ramoops.proofs.Lists.{same_items}
 
 module _ (layout : List Zone) (mem : ℕ) (image : List ℕ) (lies : IsLayout layout mem) (size : length image ≡ mem)

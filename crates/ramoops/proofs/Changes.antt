@@ -1,5 +1,6 @@
 -- A change of one zone of the machine is that of the zone of the state for which it stands
-use Rattle.std.proofs.Common.{◌≡◌, ℕ, suc, ◌+◌, ◌%◌, ◌<◌, Bool, cond, ◌&&◌, ◌||◌, not, is_some, List, [], ◌∷◌, length, slice_get, set, refl, sym, ap, ◌∙◌, subst, arith, inl, inr, Some, length-set}
+use Rattle.std.proofs.Common.{◌≡◌, ℕ, suc, ◌+◌, ◌%◌, ◌<◌, Bool, cond, ◌&&◌, ◌||◌, not, is_some, List, [], ◌∷◌, length}
+use Rattle.std.proofs.Common.{slice_get, set, refl, sym, ap, ◌∙◌, subst, arith, inl, inr, Some, length-set}
 use Rattle.std.specs.Prelude.{zip}
 use Rattle.std.specs.List.{list_any}
 use Rattle.zone_spec.specs.declared.Zone.{Zone}

@@ -1,5 +1,7 @@
 -- The next stores of a flight in the machine are those of the state for which it stands
-use Rattle.std.proofs.Common.{◌≡◌, ℕ, zero, suc, ◌+◌, ◌%◌, ◌<◌, ◌≤◌, Bool, true, false, cond, ◌&&◌, not, is_some, List, [], ◌∷◌, length, slice_get, get_or, set, filter, refl, sym, ap, ◌∙◌, subst, arith, Option, Some, None, true≢false}
+use Rattle.std.proofs.Common.{◌≡◌, ℕ, zero, suc, ◌+◌, ◌%◌, ◌<◌, ◌≤◌, Bool, true, false, cond, ◌&&◌, not, is_some, List}
+use Rattle.std.proofs.Common.{[], ◌∷◌, length, slice_get, get_or, set, filter, refl, sym, ap, ◌∙◌, subst, arith, Option}
+use Rattle.std.proofs.Common.{Some, None, true≢false}
 use Rattle.std.proofs.lemmas.List.Sums.{length-filter}
 use Rattle.std.proofs.lemmas.Option.{slice_get-get_or, slice_get_read, slice_get_within}
 use Rattle.std.proofs.lemmas.Bool.{and_parts}
@@ -26,8 +28,8 @@ use Rattle.ramoops.specs.Storing.{CanStore, HasParity, is_next, is_last_of_dump}
 use Rattle.ramoops.specs.Cursors.{cursor_after}
 use Rattle.ramoops.proofs.Changes.{Changes, changed_stands, only_span}
 use Rattle.ramoops.proofs.Begun.{here}
-use Rattle.ramoops.proofs.Storing.{flight_total}
-use Rattle.ramoops.proofs.Running.{own, over, runs_after}
+use Rattle.ramoops.proofs.FlightStores.{flight_total}
+use Rattle.ramoops.proofs.CallPremises.{own, over, runs_after}
 
 can_by : (z : Zone) (live : LiveZone) (o : Option Flying) (p : Option Flight) (bytes : List ℕ) → IsLiveZone z live
     → live.image ≡ bytes → Stands z live.image live.told p → StandsForSome z bytes o p → CanStore bytes o

@@ -1,5 +1,6 @@
 -- Items of lists, by their places
-use Rattle.std.proofs.Common.{◌≡◌, ◌≢◌, ℕ, zero, suc, ◌<◌, List, [], ◌∷◌, ◌++◌, length, slice_get, set, refl, ap, ◌∙◌, arith, inl, inr, ◌⊎◌, Some}
+use Rattle.std.proofs.Common.{◌≡◌, ◌≢◌, ℕ, zero, suc, ◌<◌, List, [], ◌∷◌, ◌++◌, length, slice_get, set, refl, ap, ◌∙◌}
+use Rattle.std.proofs.Common.{arith, inl, inr, ◌⊎◌, Some}
 use Rattle.machine_laws.proofs.Lists.{get-set}
 pub use Rattle.list_laws.proofs.Gets.{slice_get-map_some as get-of-map}
 

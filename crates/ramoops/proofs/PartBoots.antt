@@ -1,5 +1,7 @@
 -- A boot of the machine that is cut is one of the states for which it stands
-use Rattle.std.proofs.Common.{◌≡◌, ℕ, zero, suc, ◌+◌, ◌-◌, ◌<◌, ◌≤◌, min, nat_lt, nat_le, Bool, true, false, cond, ◌&&◌, ◌||◌, List, [], ◌∷◌, ◌++◌, length, take, map, flat_map, slice_get, refl, sym, ap, ◌∙◌, subst, arith, Some, None, length-append, true≢false, leb-true}
+use Rattle.std.proofs.Common.{◌≡◌, ℕ, zero, suc, ◌+◌, ◌-◌, ◌<◌, ◌≤◌, min, nat_lt, nat_le, Bool, true, false, cond, ◌&&◌}
+use Rattle.std.proofs.Common.{◌||◌, List, [], ◌∷◌, ◌++◌, length, take, map, flat_map, slice_get, refl, sym, ap, ◌∙◌}
+use Rattle.std.proofs.Common.{subst, arith, Some, None, length-append, true≢false, leb-true}
 use Rattle.std.specs.Prelude.{sum_by}
 use Rattle.std.specs.List.{concat}
 use Rattle.std.proofs.lemmas.List.{length-map, take_all}
@@ -28,12 +30,14 @@ use Rattle.zone_spec.specs.Cut.{cut_stages, cut_pairs}
 use Rattle.machine_spec.specs.Zones.{zone_bytes}
 use Rattle.machine_spec.specs.States.{OffZone, OffState}
 use Rattle.machine_spec.specs.Off.{fresh}
-use Rattle.machine_spec.specs.BootPart.{moved, image_boot_stores, boot_count, IsWithinErasure, boot_cut, zone_finished, zone_cut, zone_parted, left_at, boot_parted}
+use Rattle.machine_spec.specs.BootPart.{moved, image_boot_stores, boot_count, IsWithinErasure, boot_cut, zone_finished}
+use Rattle.machine_spec.specs.BootPart.{zone_cut, zone_parted, left_at, boot_parted}
 use Rattle.machine_spec.specs.Sound.{IsMemory}
 use Rattle.machine_laws.proofs.Lists.{length-parted, get-map, zone_within}
 use Rattle.machine_laws.proofs.Zones.{zone_image}
 use Rattle.machine_laws.proofs.Sessions.{image_is_zones_and_rest}
-use Rattle.machine_laws.proofs.CutBoot.{cut_boot_makes_stores, cut_boot_leaves_rest, cut_boot_reads, cut_boot_holds, cut_boot_keeps_stops, new_zone, count_within}
+use Rattle.machine_laws.proofs.CutBoot.{cut_boot_makes_stores, cut_boot_leaves_rest, cut_boot_reads, cut_boot_holds}
+use Rattle.machine_laws.proofs.CutBoot.{cut_boot_keeps_stops, new_zone, count_within}
 use Rattle.damage_laws.proofs.BootCut.{boot_cut_zone_reads}
 use Rattle.damage_laws.proofs.CutNumbers.{boot_cut_report_is_exact}
 use Rattle.ring_laws.proofs.Images.{length-after_stores}
@@ -52,10 +56,10 @@ use Rattle.ramoops.specs.Resting.{IsResting}
 use Rattle.ramoops.specs.Parting.{stores_before, left_for, Passes, PartsTo}
 use Rattle.ramoops.specs.Parted.{parted, AreInOrder, IsParted}
 use Rattle.ramoops.specs.Booted.{PartsZone, BootedInPart}
-use Rattle.ramoops.proofs.Listed.{all_len, all_listed}
+use Rattle.ramoops.proofs.KnownZones.{all_len, all_listed}
 use Rattle.ramoops.proofs.Lists.{same_items}
 use Rattle.ramoops.proofs.Boots.{cut_fits, span_is, span_got}
-use Rattle.ramoops.proofs.Parting.{before_next, before_none}
+use Rattle.ramoops.proofs.CutBoot.{before_next, before_none}
 
 -- no erasure begins behind the last store
 pub in_order : (z : Zone) (bytes : List ℕ) → length (boot_fixes z bytes) ≤ length (boot_stores z bytes)

@@ -1,5 +1,6 @@
 -- What is known of the zones after a cut boot
-use Rattle.std.specs.Prelude.{◌≡◌, ℕ, ◌-◌, ◌≤◌, Bool, ◌&&◌, ◌||◌, if◌then◌else◌, nat_lt, nat_le, List, length, slice_get, Some, None}
+use Rattle.std.specs.Prelude.{◌≡◌, ℕ, ◌-◌, ◌≤◌, Bool, ◌&&◌, ◌||◌, if◌then◌else◌, nat_lt, nat_le, List, length}
+use Rattle.std.specs.Prelude.{slice_get, Some, None}
 use Rattle.circular_buffer.specs.Buffer.{Buffer}
 use Rattle.ramoops.specs.declared.booting.Passed.{Passed}
 use Rattle.ramoops.specs.declared.known.KnownZone.{KnownZone}

@@ -1,5 +1,6 @@
 // The two halves of a boot: all that is read and taken before the first store, and the stores.
-ghost use Rattle.std.specs.Prelude.{◌≡◌, ◌≤◌, ◌<◌, ◌^◌, if◌then◌else◌, [], length, take, min, slice_get, Some, None, IfOk};
+ghost use Rattle.std.specs.Prelude.{◌≡◌, ◌≤◌, ◌<◌, ◌^◌, if◌then◌else◌, [], length, take, min, slice_get, Some, None};
+ghost use Rattle.std.specs.Prelude.{IfOk};
 ghost use Rattle.zone_spec.specs.Zones.{IsValidZone};
 ghost use Rattle.zone_spec.specs.Reading.{zone_reading};
 ghost use Rattle.zone_spec.specs.Boot.{keeps as keeps_zone, boot_stores, boot_fixes};

@@ -1,13 +1,16 @@
 // The machine while it is live.
-ghost use Rattle.std.specs.Prelude.{◌≡◌, ◌<◌, ℕ, true, false, List, [], map, ◌≤◌, ◌^◌, Some, None, length, slice_get, is_some, ◌||◌, ◌+◌, Ok, Err, IfOk, IfErr, IfSome, OnOk, OnErr, ◌↔◌};
+ghost use Rattle.std.specs.Prelude.{◌≡◌, ◌<◌, ℕ, true, false, List, [], map, ◌≤◌, ◌^◌, Some, None, length, slice_get};
+ghost use Rattle.std.specs.Prelude.{is_some, ◌||◌, ◌+◌, Ok, Err, IfOk, IfErr, IfSome, OnOk, OnErr, ◌↔◌};
 ghost use Rattle.zone_spec.specs.Layouts.{zone_place};
 ghost use Rattle.ramoops_layout.specs.Laid.{zones_of, NamesDiffer};
 ghost use Rattle.machine_spec.specs.States.{LiveState};
-ghost use Rattle.machine_spec.specs.LiveCalls.{asked_name, begin as begins, step as steps, finish as finishes, make as makes};
+ghost use Rattle.machine_spec.specs.LiveCalls.{asked_name, begin as begins, step as steps, finish as finishes};
+ghost use Rattle.machine_spec.specs.LiveCalls.{make as makes};
 ghost use Rattle.ramoops.specs.Asks.{ask_seen, CanBeAsked};
 ghost use Rattle.zone_spec.specs.Records.{is_of};
 ghost use Rattle.zone_spec.specs.declared.Kind.TheVariants.{Dump as DumpKind};
-ghost use Rattle.ramoops.specs.Places.{ring_at, name_of, place_asked, dump_flies, dump_flight, dump_flights, barred, flies_at, flies_in};
+ghost use Rattle.ramoops.specs.Places.{ring_at, name_of, place_asked, dump_flies, dump_flight, dump_flights, barred};
+ghost use Rattle.ramoops.specs.Places.{flies_at, flies_in};
 ghost use Rattle.std.specs.Option.{option_map};
 ghost use Rattle.machine_spec.specs.Zones.{dump_zones};
 ghost use Rattle.machine_spec.specs.LiveZones.{Target, target};

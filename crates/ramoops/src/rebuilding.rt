@@ -1,5 +1,6 @@
 // A blank store that is told the logs of another.
-ghost use Rattle.std.specs.Prelude.{◌≡◌, ◌<◌, length, map, option_to_list, replicate, slice_get, Some, None, IfOk, OnOk};
+ghost use Rattle.std.specs.Prelude.{◌≡◌, ◌<◌, length, map, option_to_list, replicate, slice_get, Some, None, IfOk};
+ghost use Rattle.std.specs.Prelude.{OnOk};
 ghost use Rattle.zone_spec.specs.Records.{Saved, found};
 ghost use Rattle.zone_spec.specs.Reading.{ZoneReading};
 ghost use Rattle.std.specs.Option.{option_copied};

@@ -1,5 +1,7 @@
 -- What holds of parameters without a fault, and of the rows of their zones
-use Rattle.std.proofs.Common.{◌≡◌, ℕ, zero, suc, ◌+◌, ◌-◌, ◌*◌, ◌/◌, ◌^◌, ◌<◌, ◌≤◌, ◌==◌, Bool, true, false, not, ◌&&◌, ◌||◌, ◌⊎◌, if◌then◌else◌, nat_lt, nat_le, List, [], ◌∷◌, map, Option, Some, None, refl, sym, ap, ◌∙◌, arith, inl, inr}
+use Rattle.std.proofs.Common.{◌≡◌, ℕ, zero, suc, ◌+◌, ◌-◌, ◌*◌, ◌/◌, ◌^◌, ◌<◌, ◌≤◌, ◌==◌, Bool, true, false, not, ◌&&◌}
+use Rattle.std.proofs.Common.{◌||◌, ◌⊎◌, if◌then◌else◌, nat_lt, nat_le, List, [], ◌∷◌, map, Option, Some, None, refl}
+use Rattle.std.proofs.Common.{sym, ap, ◌∙◌, arith, inl, inr}
 use Rattle.std.specs.List.{All, AllByRecursion, list_any, range_with_len}
 use Rattle.std.proofs.Math.Nat.{div-le_self, mul-div-le, mul-le-mul_left}
 use Rattle.std.proofs.lemmas.Bool.{and_right, eqb-true, eqb-false, ltb-false, leb-true, lt-ltb}
@@ -11,9 +13,10 @@ use Rattle.zone_spec.specs.declared.Zone.{Zone}
 use Rattle.zone_spec.specs.declared.params.Params.{Params}
 use Rattle.zone_spec.specs.declared.params.Row.{Row}
 use Rattle.zone_spec.specs.declared.params.LayoutFault.{LayoutFault}
-use Rattle.zone_spec.specs.Layout.{rounded, even, dump_memory, dump_count, one_row, rows, ecc_of, zone_at, zones_from, parameter_faults, first_fault}
+use Rattle.zone_spec.specs.Layout.{rounded, even, dump_memory, dump_count, one_row, rows, ecc_of, zone_at, zones_from}
+use Rattle.zone_spec.specs.Layout.{parameter_faults, first_fault}
 use Rattle.ramoops_layout.specs.Rows.{taken, all_taken}
-use Rattle.ramoops_layout.proofs.Rounding.{rounded_le}
+use Rattle.ramoops_layout.proofs.PowersOfTwo.{rounded_le}
 
 clear : (b : Bool) (f : LayoutFault) (r : Option LayoutFault) → (if b then Some f else r) ≡ None
     → (b ≡ false) × (r ≡ None)

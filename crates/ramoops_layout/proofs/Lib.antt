@@ -1,6 +1,6 @@
 -- Lemmas on sizes, rows, and zones that lie side by side with names that differ. The functions of
 -- `Layout` cite them.
-pub mod Rounding
+pub mod PowersOfTwo
 pub mod Faultless
 pub mod LaidOut
 pub mod WholeLayout
@@ -9,4 +9,4 @@ pub mod RowPlaces
 pub mod FoundRows
 pub mod Texts
 pub mod WordLaws
-pub mod Apart
+pub mod DistinctKeys

@@ -1,5 +1,7 @@
 -- The zones of a layout are valid, lie in order, and end within the memory
-use Rattle.std.proofs.Common.{◌≡◌, ℕ, zero, suc, ◌+◌, ◌-◌, ◌*◌, ◌^◌, ◌<◌, ◌≤◌, Bool, true, false, ◌&&◌, ◌||◌, nat_lt, nat_le, bit_xor, List, [], ◌∷◌, ◌++◌, map, length, take, Option, Some, None, Ok, refl, sym, ap, ◌∙◌, arith, slice_get}
+use Rattle.std.proofs.Common.{◌≡◌, ℕ, zero, suc, ◌+◌, ◌-◌, ◌*◌, ◌^◌, ◌<◌, ◌≤◌, Bool, true, false, ◌&&◌, ◌||◌, nat_lt}
+use Rattle.std.proofs.Common.{nat_le, bit_xor, List, [], ◌∷◌, ◌++◌, map, length, take, Option, Some, None, Ok, refl}
+use Rattle.std.proofs.Common.{sym, ap, ◌∙◌, arith, slice_get}
 use Rattle.std.specs.Option.{option_or}
 use Rattle.std.specs.List.{AllByRecursion, list_any, range_with_len}
 use Rattle.std.proofs.lemmas.Bool.{ltb-false, leb-false}
@@ -16,9 +18,11 @@ use Rattle.zone_spec.specs.declared.params.Row.{Row}
 use Rattle.zone_spec.specs.declared.params.LayoutFault.{LayoutFault}
 use Rattle.zone_spec.specs.Zones.{IsValidZone}
 use Rattle.zone_spec.specs.Layouts.{zones_end, IsLayout}
-use Rattle.zone_spec.specs.Layout.{rows, zone_at, zones_from, parameter_faults, zone_faults, first_fault, ok_unless, layout_of, ecc_of, tag_of}
+use Rattle.zone_spec.specs.Layout.{rows, zone_at, zones_from, parameter_faults, zone_faults, first_fault, ok_unless}
+use Rattle.zone_spec.specs.Layout.{layout_of, ecc_of, tag_of}
 use Rattle.ramoops_layout.specs.Rows.{taken, all_taken}
-use Rattle.ramoops_layout.proofs.Faultless.{IsFaultless, faultless, rows_total, mem_small, rows_within, parity_within, block_at_most, each_clear, or_clear, small_rows, any_in_rows}
+use Rattle.ramoops_layout.proofs.Faultless.{IsFaultless, faultless, rows_total, mem_small, rows_within, parity_within}
+use Rattle.ramoops_layout.proofs.Faultless.{block_at_most, each_clear, or_clear, small_rows, any_in_rows}
 use Rattle.ramoops_layout.proofs.LaidOut.{by_faults, of_row}
 
 -- what an answer of zones says of the faults

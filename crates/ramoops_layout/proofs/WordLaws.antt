@@ -1,5 +1,7 @@
 -- Words: their keys, the values that they give, and their faults
-use Rattle.std.proofs.Common.{◌≡◌, ℕ, suc, ◌+◌, ◌<◌, ◌≤◌, ◌==◌, Bool, true, false, not, ◌&&◌, ◌||◌, if◌then◌else◌, List, [], ◌∷◌, length, drop, map, Option, Some, None, refl, sym, ap, ◌∙◌, arith, add-one, Bor, get_or, drop-cons, bytes_eq, string_bytes, is_some, is_none, String, Global}
+use Rattle.std.proofs.Common.{◌≡◌, ℕ, suc, ◌+◌, ◌<◌, ◌≤◌, ◌==◌, Bool, true, false, not, ◌&&◌, ◌||◌, if◌then◌else◌, List}
+use Rattle.std.proofs.Common.{[], ◌∷◌, length, drop, map, Option, Some, None, refl, sym, ap, ◌∙◌, arith, add-one, Bor}
+use Rattle.std.proofs.Common.{get_or, drop-cons, bytes_eq, string_bytes, is_some, is_none, String, Global}
 use Rattle.std.specs.Option.{option_map, option_copied, option_and_then}
 use Rattle.std.specs.List.{list_any, find, position_or_len, after_first}
 use Rattle.std.proofs.Math.ListN.{drop_of_length-le}

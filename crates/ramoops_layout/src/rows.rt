@@ -1,7 +1,8 @@
 // The zones of each kind, and what is wrong with them.
 ghost use Rattle.std.specs.Prelude.{◌≡◌, ℕ, ◌≤◌, ◌<◌, ◌^◌, ◌==◌, ◌&&◌, ◌+◌, ◌*◌, ◌||◌, [], ◌∷◌, nat_lt, sum_by, None};
 ghost use Rattle.std.specs.List.{All, list_any, list_all};
-ghost use Rattle.zone_spec.specs.Layout.{rounded as rounded_of, ecc_of, rows as rows_of, zone_at as zone_of, parameter_faults, first_fault, zone_faults, zones_from, dump_memory, tag_of};
+ghost use Rattle.zone_spec.specs.Layout.{rounded as rounded_of, ecc_of, rows as rows_of, zone_at as zone_of};
+ghost use Rattle.zone_spec.specs.Layout.{parameter_faults, first_fault, zone_faults, zones_from, dump_memory, tag_of};
 ghost use Rattle.zone_spec.specs.Layouts.{zone_place};
 ghost use Rattle.zone_spec.specs.Records.{is_of};
 ghost use Rattle.zone_spec.specs.Zones.{blocks_in as blocks_of};

@@ -2,7 +2,8 @@
 ghost use Rattle.std.specs.Prelude.{◌≡◌, ◌≤◌, length, Option, Some, None};
 ghost use Rattle.std.specs.Option.{option_copied};
 ghost use Rattle.std.specs.List.{position, position_or_len};
-ghost use Rattle.report_colours.specs.Colours.{is_bracket, level_field, level_of, tells_death, has_bad, level_colour, colour_of, is_newline};
+ghost use Rattle.report_colours.specs.Colours.{is_bracket, level_field, level_of, tells_death, has_bad, level_colour};
+ghost use Rattle.report_colours.specs.Colours.{colour_of, is_newline};
 
 use kernel_line::long_digits;
 

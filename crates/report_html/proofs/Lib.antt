@@ -1,18 +1,18 @@
 -- Lemmas on escaped text, runs of blocks, and the pieces of a page. The crate's functions cite
 -- them.
-pub mod Foreign
-pub mod Covered
+pub mod ForeignParts
+pub mod RunsOfBlocks
 pub mod Texts
 pub mod Runs
-pub mod Rendered
-pub mod Counted
-pub mod Joined
+pub mod PieceTexts
+pub mod NonZeroCounts
+pub mod PartSums
 pub mod Blocks
-pub mod Drawn
+pub mod PictureZones
 pub mod Places
 pub mod LogLines
-pub mod Grouped
+pub mod RecordGroups
 pub mod Earlier
-pub mod Spotted
+pub mod DamagedSpots
 pub mod Rows
-pub mod Once
+pub mod DumpCounts

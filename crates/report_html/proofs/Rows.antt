@@ -1,9 +1,12 @@
 -- The dumps that are kept, one dump more. For the loops of `causes`.
-use Rattle.std.proofs.Common.{◌≡◌, ℕ, ◌+◌, ◌<◌, ◌≤◌, Bool, true, false, not, ◌&&◌, ◌||◌, nat_lt, cond, List, [], ◌∷◌, ◌++◌, length, take, drop, get_or, map, append-nil, append_assoc, refl, sym, ap, ap₂, ◌∙◌, arith, Option, None}
+use Rattle.std.proofs.Common.{◌≡◌, ℕ, ◌+◌, ◌<◌, ◌≤◌, Bool, true, false, not, ◌&&◌, ◌||◌, nat_lt, cond, List, [], ◌∷◌}
+use Rattle.std.proofs.Common.{◌++◌, length, take, drop, get_or, map, append-nil, append_assoc, refl, sym, ap, ap₂, ◌∙◌}
+use Rattle.std.proofs.Common.{arith, Option, None}
 use Rattle.std.specs.Prelude.{filter, flat_map, if◌then◌else◌}
 use Rattle.std.specs.List.{list_any}
 use Rattle.std.proofs.lemmas.Bool.Decides.{nat_tests}
-use Rattle.std.proofs.lemmas.List.{map-append, take_more, take_all, take-append-le, length-take, length-append, at_drop_more, at_drop_all}
+use Rattle.std.proofs.lemmas.List.{map-append, take_more, take_all, take-append-le, length-take, length-append}
+use Rattle.std.proofs.lemmas.List.{at_drop_more, at_drop_all}
 use Rattle.std.proofs.lemmas.List.Concat.{flat_map-append}
 use Rattle.std.proofs.lemmas.List.Elements.{filter-append}
 use Rattle.std.proofs.lemmas.List.Sums.{fold-append}
@@ -11,7 +14,8 @@ use Rattle.report_spec.specs.Packed.{RecordShown}
 use Rattle.report_spec.specs.Newest.{newer_of, newest}
 use Rattle.report_html.specs.declared.causes.Crash.{Crash}
 use Rattle.report_html.specs.Pieces.{Part}
-use Rattle.report_html.specs.Causes.{CrashShown, crash_of, is_dump, crashes_of, has_line_of, with_first, firsts_of, has_no_row, crash_in, crashes_in}
+use Rattle.report_html.specs.Causes.{CrashShown, crash_of, is_dump, crashes_of, has_line_of, with_first, firsts_of}
+use Rattle.report_html.specs.Causes.{has_no_row, crash_in, crashes_in}
 
 -- ---- one dump more
 

@@ -1,5 +1,6 @@
 -- Bytes that are escaped run by run
-use Rattle.std.proofs.Common.{◌≡◌, ℕ, ◌+◌, ◌-◌, ◌≤◌, ◌<◌, length, get_or, append-nil, List, [], ◌∷◌, ◌++◌, take, drop, slice_range, sym, ap, ap₂, ◌∙◌, arith, append_assoc}
+use Rattle.std.proofs.Common.{◌≡◌, ℕ, ◌+◌, ◌-◌, ◌≤◌, ◌<◌, length, get_or, append-nil, List, [], ◌∷◌, ◌++◌, take, drop}
+use Rattle.std.proofs.Common.{slice_range, sym, ap, ap₂, ◌∙◌, arith, append_assoc}
 use Rattle.std.specs.Prelude.{flat_map}
 use Rattle.std.proofs.lemmas.List.{take-append-drop, drop-take, take-take, take_more, length-take}
 use Rattle.std.proofs.lemmas.List.Concat.{flat_map-append}

@@ -1,12 +1,14 @@
 -- Escaped bytes are text
-use Rattle.std.proofs.Common.{◌≡◌, ℕ, zero, suc, ◌+◌, ◌/◌, ◌%◌, ◌<◌, ◌==◌, Bool, true, false, ◌&&◌, nat_lt, if◌then◌else◌, List, [], ◌∷◌, ◌++◌, refl, ap, ◌∙◌, arith, codes}
+use Rattle.std.proofs.Common.{◌≡◌, ℕ, zero, suc, ◌+◌, ◌/◌, ◌%◌, ◌<◌, ◌==◌, Bool, true, false, ◌&&◌, nat_lt}
+use Rattle.std.proofs.Common.{if◌then◌else◌, List, [], ◌∷◌, ◌++◌, refl, ap, ◌∙◌, arith, codes}
 use Rattle.std.specs.Prelude.{flat_map}
 use Rattle.std.specs.List.{list_all, range_with_len}
 use Rattle.std.proofs.lemmas.Bool.{and_parts}
 use Rattle.std.proofs.lemmas.Bool.Decides.{nat_tests}
 use Rattle.std.proofs.lemmas.List.Folds.{list_all-append}
 use Rattle.zone_spec.specs.Parts.{AreBytes}
-use Rattle.report_spec.specs.Escaped.{is_plain, shown, hex_digit, escaped_byte, escaped, is_harmless, are_references, IsText}
+use Rattle.report_spec.specs.Escaped.{is_plain, shown, hex_digit, escaped_byte, escaped, is_harmless, are_references}
+use Rattle.report_spec.specs.Escaped.{IsText}
 
 -- a test that holds of all numbers of a range
 of-range : (p : ℕ → Bool) (a n : ℕ) → list_all p (range_with_len a n) ≡ true → (j : ℕ) → j < n → p (a + j) ≡ true

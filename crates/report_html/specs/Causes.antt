@@ -1,5 +1,6 @@
 -- A table of the dumps by telling line: for each line how many dumps have it, and the newest of them
-use Rattle.std.specs.Prelude.{ℕ, nat_lt, Bool, true, false, not, if◌then◌else◌, List, [], ◌∷◌, ◌++◌, length, take, map, filter, flat_map, bytes_eq, codes, Option, Some, None}
+use Rattle.std.specs.Prelude.{ℕ, nat_lt, Bool, true, false, not, if◌then◌else◌, List, [], ◌∷◌, ◌++◌, length, take, map}
+use Rattle.std.specs.Prelude.{filter, flat_map, bytes_eq, codes, Option, Some, None}
 use Rattle.std.specs.List.{fold, list_any}
 use Rattle.std.specs.Option.{is_some, option_copied, option_map}
 use Rattle.zone_spec.specs.declared.Time.{Time}

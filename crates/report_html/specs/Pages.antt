@@ -10,7 +10,7 @@ use Rattle.report_spec.specs.declared.Packing.TheVariants.{Plain, Whole, Part as
 use Rattle.report_spec.specs.Packed.{RecordShown, fault_words, readable}
 use Rattle.report_spec.specs.Newest.{newest}
 use Rattle.report_spec.specs.Deaths.{DeathTold, death_told}
-use Rattle.record_report.specs.Reports.{ReportHeld}
+use Rattle.region_report.specs.Reports.{ReportHeld}
 use Rattle.report_html.specs.declared.style.TheConstants.{STYLE}
 use Rattle.report_html.specs.Pieces.{Part, Words, Count, Bytes, Log, parts_text}
 use Rattle.report_html.specs.Names.{name_parts, time_parts}

@@ -1,5 +1,6 @@
 -- The picture of an image: its zones to scale, and a table of them with their blocks
-use Rattle.std.specs.Prelude.{ℕ, ◌+◌, ◌-◌, ◌*◌, ◌/◌, min, Bool, true, false, ◌==◌, nat_lt, if◌then◌else◌, List, [], ◌∷◌, ◌++◌, length, slice_get, flat_map, codes, Option, Some, None}
+use Rattle.std.specs.Prelude.{ℕ, ◌+◌, ◌-◌, ◌*◌, ◌/◌, min, Bool, true, false, ◌==◌, nat_lt, if◌then◌else◌, List, [], ◌∷◌}
+use Rattle.std.specs.Prelude.{◌++◌, length, slice_get, flat_map, codes, Option, Some, None}
 use Rattle.std.specs.List.{zip}
 use Rattle.zone_spec.specs.declared.Kind.{Kind}
 use Rattle.zone_spec.specs.declared.Kind.TheVariants.{Dump, Console, Ftrace, Pmsg}
@@ -11,7 +12,7 @@ use Rattle.zone_spec.specs.Records.{Saved}
 use Rattle.zone_spec.specs.declared.PartState.{PartState}
 use Rattle.zone_spec.specs.declared.PartState.TheVariants.{Read, Bad}
 use Rattle.zone_spec.specs.PartStates.{PartStates}
-use Rattle.record_report.specs.Reports.{ReportHeld}
+use Rattle.region_report.specs.Reports.{ReportHeld}
 use Rattle.report_html.specs.Pieces.{Part, Words, Count}
 
 -- ---- zones

@@ -5,7 +5,8 @@ use Rattle.report_spec.specs.Escaped.{escaped}
 use Rattle.report_html.specs.Moments.{moment_text}
 use Rattle.report_html.specs.Logs.{log_text}
 use Rattle.report_html.specs.declared.pieces.Piece.{Piece}
-use Rattle.report_html.specs.declared.pieces.Piece.TheVariants.{Own, Number, Foreign, Moment as MomentPiece, Log as LogPiece}
+use Rattle.report_html.specs.declared.pieces.Piece.TheVariants.{Own, Number, Foreign, Moment as MomentPiece}
+use Rattle.report_html.specs.declared.pieces.Piece.TheVariants.{Log as LogPiece}
 
 -- a part of a page: its own words; a number in decimal; foreign bytes, which are escaped; a time; or a log, whose lines
 -- are foreign bytes

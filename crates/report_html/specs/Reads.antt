@@ -3,7 +3,7 @@ use Rattle.std.specs.Prelude.{ℕ, nat_lt, if◌then◌else◌, List, [], ◌∷
 use Rattle.zone_spec.specs.declared.Name.{Name}
 use Rattle.zone_spec.specs.Records.{Saved}
 use Rattle.pstore_records.specs.Counts.{corrected_in, bad_in}
-use Rattle.record_report.specs.Counted.{zones_counted}
+use Rattle.region_report.specs.Counted.{zones_counted}
 use Rattle.report_html.specs.Pieces.{Part, Words, Count}
 
 abbrev pub counted_parts : (words : List ℕ) → ℕ → List Part

@@ -1,7 +1,7 @@
 -- The region: its zones to scale, what is not clean, and a table of the zones
 use Rattle.std.specs.Prelude.{true, false, List, [], ◌∷◌, ◌++◌, length, codes}
 use Rattle.zone_spec.specs.declared.Zone.{Zone}
-use Rattle.record_report.specs.Reports.{ReportHeld}
+use Rattle.region_report.specs.Reports.{ReportHeld}
 use Rattle.report_html.specs.Pieces.{Part, Words}
 use Rattle.report_html.specs.Pictures.{region_opening, width_of, all_drawn, key_words, table_words}
 use Rattle.report_html.specs.Spots.{spots_of, spots_parts}

@@ -1,5 +1,6 @@
 -- What must be known before a page is believed
-use Rattle.std.specs.Prelude.{ℕ, ◌/◌, ◌==◌, Bool, true, false, not, ◌||◌, nat_lt, if◌then◌else◌, List, [], ◌∷◌, ◌++◌, length, codes, Option, Some, None}
+use Rattle.std.specs.Prelude.{ℕ, ◌/◌, ◌==◌, Bool, true, false, not, ◌||◌, nat_lt, if◌then◌else◌, List, [], ◌∷◌, ◌++◌}
+use Rattle.std.specs.Prelude.{length, codes, Option, Some, None}
 use Rattle.std.specs.List.{list_any, count_by}
 use Rattle.zone_spec.specs.declared.Name.{Name}
 use Rattle.zone_spec.specs.Records.{Saved}
@@ -11,8 +12,8 @@ use Rattle.report_spec.specs.Packed.{RecordShown}
 use Rattle.report_spec.specs.Newest.{newest, is_console}
 use Rattle.report_spec.specs.Deaths.{DeathTold}
 use Rattle.prz_read.specs.Saving.{saved}
-use Rattle.record_report.specs.Counted.{zones_counted}
-use Rattle.record_report.specs.Reports.{ReportHeld}
+use Rattle.region_report.specs.Counted.{zones_counted}
+use Rattle.region_report.specs.Reports.{ReportHeld}
 use Rattle.report_html.specs.Pieces.{Part, Words, Count}
 use Rattle.report_html.specs.Names.{link_parts}
 

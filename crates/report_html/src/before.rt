@@ -2,16 +2,18 @@
 ghost use Rattle.std.specs.Prelude.{◌≡◌, ◌++◌, OnOk};
 ghost use Rattle.zone_spec.specs.Parts.{AreBytes};
 ghost use Rattle.report_spec.specs.Newest.{is_newer};
-ghost use Rattle.record_report.specs.Tellers.{told_in};
+ghost use Rattle.region_report.specs.Tellers.{told_in};
 ghost use Rattle.report_html.specs.Pieces.{parts};
-ghost use Rattle.report_html.specs.Before.{is_same_dump as is_dump_named, other_told as told_by_other, told_before as told_by_newest, teller_in, newer_told as told_by_newer, time_after, line_below, before_parts};
+ghost use Rattle.report_html.specs.Before.{is_same_dump as is_dump_named, other_told as told_by_other};
+ghost use Rattle.report_html.specs.Before.{told_before as told_by_newest, teller_in, newer_told as told_by_newer};
+ghost use Rattle.report_html.specs.Before.{time_after, line_below, before_parts};
 ghost use Rattle.report_html.specs.Escaping.{TellsBytes};
 
 use crate::names::add_link;
 use crate::pieces::{Piece, add};
 use death::{death, part};
 use death_spec::Line;
-use record_report::{RecordReport, Told, is_newer};
+use region_report::{RecordReport, Telling, is_newer};
 use std::alloc::AllocError;
 use zone_spec::{Name, Time};
 
@@ -25,21 +27,21 @@ fn is_same_dump(name: Name, other: Name) -> bool
 }
 
 /// Why the machine died by another record than the dump of this name.
-fn other_told(name: Name, entry: &RecordReport) -> Option<Told<'_>>
+fn other_told(name: Name, entry: &RecordReport) -> Option<Telling<'_>>
     ensures { told_in result ≡ told_by_other name entry.now }
 {
     if is_same_dump(name, entry.name) {
         return None;
     }
     let death = death(entry.readable())?;
-    Some(Told {
+    Some(Telling {
         teller: entry,
         death,
     })
 }
 
 /// Whether a record is newer than the one that is held.
-fn is_newer_than(entry: &RecordReport, held: Option<Told<'_>>) -> bool
+fn is_newer_than(entry: &RecordReport, held: Option<Telling<'_>>) -> bool
     ensures { result ≡ is_newer entry.now (teller_in (told_in held.entry)) }
 {
     match held {
@@ -48,7 +50,11 @@ fn is_newer_than(entry: &RecordReport, held: Option<Told<'_>>) -> bool
     }
 }
 
-fn newer_told<'a>(name: Name, held: Option<Told<'a>>, entry: &'a RecordReport) -> Option<Told<'a>>
+fn newer_told<'a>(
+    name: Name,
+    held: Option<Telling<'a>>,
+    entry: &'a RecordReport,
+) -> Option<Telling<'a>>
     ensures { told_in result ≡ told_by_newer name (told_in held.entry) entry.now }
 {
     if is_newer_than(entry, held) {
@@ -59,7 +65,7 @@ fn newer_told<'a>(name: Name, held: Option<Told<'a>>, entry: &'a RecordReport) -
 }
 
 /// Why the machine died by the newest of the other dumps that tell.
-fn told_before<'a>(name: Name, records: &'a [RecordReport]) -> Option<Told<'a>>
+fn told_before<'a>(name: Name, records: &'a [RecordReport]) -> Option<Telling<'a>>
     ensures { told_in result ≡ told_by_newest name records.now }
 {
     let mut before = None;
@@ -96,7 +102,7 @@ fn add_line_below<'a>(
     )
 }
 
-fn add_told<'a>(pieces: &mut Vec<Piece<'a>>, told: Told<'a>) -> Result<(), AllocError>
+fn add_told<'a>(pieces: &mut Vec<Piece<'a>>, told: Telling<'a>) -> Result<(), AllocError>
     ensures bytes { OnOk result (TellsBytes (told_in (Some told.entry))) }
     ensures parts { OnOk result (parts pieces.new.items
         ≡ parts pieces.old.items ++ before_parts (told_in (Some told.entry))) }

@@ -5,7 +5,7 @@ ghost use Rattle.report_html.specs.Pieces.{parts};
 ghost use Rattle.report_html.specs.Pictures.{block_at, is_alike, numbers_parts, runs};
 
 use crate::pieces::{Piece, add};
-use record_report::PartState;
+use region_report::PartState;
 use std::alloc::AllocError;
 use zone_spec::Zone;
 

@@ -1,15 +1,21 @@
 // The dumps by telling line.
-ghost use Rattle.std.specs.Prelude.{◌≡◌, ◌&&◌, nat_lt, if◌then◌else◌, List, [], ◌∷◌, ◌++◌, length, take, map, filter, flat_map, IfOk, OnOk};
+ghost use Rattle.std.specs.Prelude.{◌≡◌, ◌&&◌, nat_lt, if◌then◌else◌, List, [], ◌∷◌, ◌++◌, length, take, map, filter};
+ghost use Rattle.std.specs.Prelude.{flat_map, IfOk, OnOk};
 ghost use Rattle.std.specs.Option.{option_copied};
 ghost use Rattle.report_spec.specs.Newest.{newer_of, newest};
 ghost use Rattle.report_html.specs.Pieces.{part_of, parts};
-ghost use Rattle.report_html.specs.Causes.{CrashShown, telling_line as line_told, crash_of as crash_shown, is_dump as is_dump_shown, crashes_of as crashes_shown, is_same_line as are_same, has_line_of as has_same, with_first, rows_of as rows_shown, has_no_row as has_none, time_cell, newest_cells, row_parts, line_part, cause_parts, others_parts, table_parts, causes_parts, crash_in, crashes_in};
+ghost use Rattle.report_html.specs.Causes.{CrashShown, telling_line as line_told, crash_of as crash_shown};
+ghost use Rattle.report_html.specs.Causes.{is_dump as is_dump_shown, crashes_of as crashes_shown};
+ghost use Rattle.report_html.specs.Causes.{is_same_line as are_same, has_line_of as has_same, with_first};
+ghost use Rattle.report_html.specs.Causes.{rows_of as rows_shown, has_no_row as has_none, time_cell, newest_cells};
+ghost use Rattle.report_html.specs.Causes.{row_parts, line_part, cause_parts, others_parts, table_parts, causes_parts};
+ghost use Rattle.report_html.specs.Causes.{crash_in, crashes_in};
 
 use crate::listed::dump_number;
 use crate::names::add_link;
 use crate::pieces::{Piece, add};
 use death::{death, part};
-use record_report::{RecordReport, is_newer};
+use region_report::{RecordReport, is_newer};
 use std::alloc::{AllocError, Global};
 use zone_spec::Time;
 

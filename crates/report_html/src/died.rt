@@ -4,9 +4,13 @@ ghost use Rattle.zone_spec.specs.Parts.{AreBytes};
 ghost use Rattle.death_spec.specs.Lines.{lines_from};
 ghost use Rattle.report_spec.specs.Packed.{readable};
 ghost use Rattle.std.specs.Option.{option_copied};
-ghost use Rattle.record_report.specs.Tellers.{as_told, told_in};
+ghost use Rattle.region_report.specs.Tellers.{as_told, told_in};
 ghost use Rattle.report_html.specs.Pieces.{parts};
-ghost use Rattle.report_html.specs.Died.{second_parts, said_parts, why_parts, fact_parts, stamp_of as stamp_span, when_parts, context_parts, is_found as is_line_found, fewer as lines_fewer, place_above as place_before, next_at, below as place_below, log_parts, marked_parts, rest_parts, around_parts, shared_words, console_words, teller_parts, death_parts, died_parts};
+ghost use Rattle.report_html.specs.Died.{second_parts, said_parts, why_parts, fact_parts, stamp_of as stamp_span};
+ghost use Rattle.report_html.specs.Died.{when_parts, context_parts, is_found as is_line_found, fewer as lines_fewer};
+ghost use Rattle.report_html.specs.Died.{place_above as place_before, next_at, below as place_below, log_parts};
+ghost use Rattle.report_html.specs.Died.{marked_parts, rest_parts, around_parts, shared_words, console_words};
+ghost use Rattle.report_html.specs.Died.{teller_parts, death_parts, died_parts};
 ghost use Rattle.report_html.specs.Before.{told_before};
 ghost use Rattle.report_html.specs.Escaping.{TellsBytes, AllTellBytes};
 
@@ -16,7 +20,7 @@ use crate::names::{add_link, add_name};
 use crate::pieces::{Piece, add};
 use death::{next_line, part};
 use death_spec::{Death, Line, Span};
-use record_report::{RecordReport, Told, console, has_telling_line};
+use region_report::{RecordReport, Telling, console, has_telling_line};
 use std::alloc::AllocError;
 use zone_spec::{Name, Time};
 
@@ -70,7 +74,7 @@ fn add_said<'a>(pieces: &mut Vec<Piece<'a>>, text: &'a [u8], death: Death) -> Re
 }
 
 /// Adds what a record tells, or that none tells.
-pub fn add_why<'a>(pieces: &mut Vec<Piece<'a>>, told: Option<Told<'a>>) -> Result<(), AllocError>
+pub fn add_why<'a>(pieces: &mut Vec<Piece<'a>>, told: Option<Telling<'a>>) -> Result<(), AllocError>
     ensures { OnOk result (parts pieces.new.items ≡ parts pieces.old.items ++ why_parts (told_in told.entry)) }
 {
     match told {
@@ -297,7 +301,7 @@ fn shared_text(is_shared: bool) -> &'static str
 }
 
 /// Whether the console has the telling line too.
-fn console_text(told: &Told<'_>, console: Option<&RecordReport>) -> &'static str
+fn console_text(told: &Telling<'_>, console: Option<&RecordReport>) -> &'static str
     ensures { result.now ≡ console_words (as_told told.now) (option_copied console.entry) }
 {
     let Some(console) = console else {
@@ -332,7 +336,7 @@ fn add_teller(
 
 fn add_death<'a>(
     pieces: &mut Vec<Piece<'a>>,
-    told: &Told<'a>,
+    told: &Telling<'a>,
     records: &'a [RecordReport],
 ) -> Result<(), AllocError>
     ensures bytes { OnOk result (AreBytes (readable told.now.teller.now)) }
@@ -355,7 +359,7 @@ fn add_death<'a>(
 pub fn add_died<'a>(
     pieces: &mut Vec<Piece<'a>>,
     records: &'a [RecordReport],
-    told: Option<Told<'a>>,
+    told: Option<Telling<'a>>,
 ) -> Result<(), AllocError>
     ensures tells { OnOk result (AllTellBytes records.entry.now (told_in told.entry)) }
     ensures parts { OnOk result (parts pieces.new.items

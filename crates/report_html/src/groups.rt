@@ -1,11 +1,12 @@
 // Groups of dumps: those of 32 zones.
 ghost use Rattle.std.specs.Prelude.{◌≡◌, ◌++◌, OnOk};
 ghost use Rattle.report_html.specs.Pieces.{parts};
-ghost use Rattle.report_html.specs.Groups.{group_at, is_of_dump, are_grouped, group_in, is_same, end_parts, group_words, begin_parts, edge_parts};
+ghost use Rattle.report_html.specs.Groups.{group_at, is_of_dump, are_grouped, group_in, is_same, end_parts};
+ghost use Rattle.report_html.specs.Groups.{group_words, begin_parts, edge_parts};
 
 use crate::listed::dump_number;
 use crate::pieces::{Piece, add};
-use record_report::RecordReport;
+use region_report::RecordReport;
 use std::alloc::AllocError;
 use zone_spec::{Kind, Zone};
 

@@ -2,14 +2,15 @@
 ghost use Rattle.std.specs.Prelude.{◌≡◌, ◌++◌, OnOk};
 ghost use Rattle.std.specs.Option.{option_copied};
 ghost use Rattle.report_spec.specs.Newest.{is_console};
-ghost use Rattle.record_report.specs.Tellers.{told_in};
+ghost use Rattle.region_report.specs.Tellers.{told_in};
 ghost use Rattle.report_html.specs.Pieces.{parts};
-ghost use Rattle.report_html.specs.Listed.{below_parts, telling_parts, above_parts, say_parts, dump_number, unfolded, is_numbered, is_unfolded, fold_parts};
+ghost use Rattle.report_html.specs.Listed.{below_parts, telling_parts, above_parts, say_parts, dump_number, unfolded};
+ghost use Rattle.report_html.specs.Listed.{is_numbered, is_unfolded, fold_parts};
 
 use crate::pieces::{Piece, add};
 use death::{death, part};
 use death_spec::{Death, Span};
-use record_report::{RecordReport, Told};
+use region_report::{RecordReport, Telling};
 use std::alloc::AllocError;
 use zone_spec::Name;
 
@@ -97,7 +98,7 @@ pub fn is_console(name: Name) -> bool
 }
 
 /// The number of the dump that is unfolded: the newest, unless it tells why the machine died.
-pub fn unfolded(dump: Option<&RecordReport>, told: Option<Told<'_>>) -> Option<u32>
+pub fn unfolded(dump: Option<&RecordReport>, told: Option<Telling<'_>>) -> Option<u32>
     ensures { result ≡ unfolded (option_copied dump.entry) (told_in told.entry) }
 {
     let dump = dump?;

@@ -1,6 +1,7 @@
 // Times.
 ghost use Rattle.std.specs.Prelude.{◌≡◌, ◌++◌, ◌<◌, OnOk};
-ghost use Rattle.report_html.specs.Moments.{day_text as text_of_day, six_text as text_of_six, micros_text, dated_text, undated_text, moment_text};
+ghost use Rattle.report_html.specs.Moments.{day_text as text_of_day, six_text as text_of_six, micros_text, dated_text};
+ghost use Rattle.report_html.specs.Moments.{undated_text, moment_text};
 
 use itoa::Buffer;
 use pmsg::{date_of, date_text, digit};

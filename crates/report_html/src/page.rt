@@ -1,11 +1,12 @@
 // The page.
 ghost use Rattle.std.specs.Prelude.{◌≡◌, ◌++◌, None, IfOk, OnOk};
 ghost use Rattle.prz_read.specs.Saving.{saved};
-ghost use Rattle.record_report.specs.Tellers.{told_in};
+ghost use Rattle.region_report.specs.Tellers.{told_in};
 ghost use Rattle.zone_spec.specs.Parts.{AreBytes};
 ghost use Rattle.report_spec.specs.Packed.{readable};
 ghost use Rattle.report_html.specs.Pieces.{parts};
-ghost use Rattle.report_html.specs.Pages.{length_parts, packing_parts, content_parts, record_parts, records_after, list_parts, records_opening, heading_parts, page_parts, page_of};
+ghost use Rattle.report_html.specs.Pages.{length_parts, packing_parts, content_parts, record_parts, records_after};
+ghost use Rattle.report_html.specs.Pages.{list_parts, records_opening, heading_parts, page_parts, page_of};
 ghost use Rattle.report_spec.specs.Deaths.{death_told};
 ghost use Rattle.report_html.specs.Escaping.{HoldBytes, AllTellBytes, IsWithoutMarkup};
 
@@ -22,7 +23,7 @@ use crate::style::STYLE;
 use crate::warnings::add_warnings;
 use outside::Bytes;
 use prz_read::Logs;
-use record_report::{Packing, RecordReport, Report, Told, death_told, newest_dump};
+use region_report::{Packing, RecordReport, Report, Telling, death_told, newest_dump};
 use std::alloc::{AllocError, Global};
 use zone_spec::{Name, Params, Zone};
 
@@ -160,7 +161,7 @@ fn add_list<'a>(
     pieces: &mut Vec<Piece<'a>>,
     zones: &[Zone],
     report: &'a Report,
-    told: Option<Told<'_>>,
+    told: Option<Telling<'_>>,
 ) -> Result<(), AllocError>
     ensures bytes { OnOk result (HoldBytes report.entry.now.records) }
     ensures parts { OnOk result (parts pieces.new.items

@@ -2,7 +2,11 @@
 ghost use Rattle.std.specs.Prelude.{◌≡◌, ◌++◌, flat_map, Some, OnOk};
 ghost use Rattle.std.specs.Option.{option_copied};
 ghost use Rattle.report_html.specs.Pieces.{parts};
-ghost use Rattle.report_html.specs.Pictures.{class_words, part_words, opening, closing, header_parts, blocks_word, range_parts, count_parts, corrected_parts, blocks_opening, blocks_parts, runs, run_parts, unused_parts, reading_cells, unread_cells, read_cells, row_parts, zone_parts, drawn_parts, end_of, width_of, region_opening, all_drawn};
+ghost use Rattle.report_html.specs.Pictures.{class_words, part_words, opening, closing, header_parts, blocks_word};
+ghost use Rattle.report_html.specs.Pictures.{range_parts, count_parts, corrected_parts, blocks_opening, blocks_parts};
+ghost use Rattle.report_html.specs.Pictures.{runs, run_parts, unused_parts, reading_cells, unread_cells, read_cells};
+ghost use Rattle.report_html.specs.Pictures.{row_parts, zone_parts, drawn_parts, end_of, width_of, region_opening};
+ghost use Rattle.report_html.specs.Pictures.{all_drawn};
 ghost use Rattle.report_html.specs.Regions.{picture};
 
 use crate::block_runs::{add_numbers, block_at, run_end};
@@ -10,7 +14,7 @@ use crate::pieces::{Piece, add};
 use crate::region::{add_map_zone, add_zone_name, read_text};
 use crate::spots::{add_spots, spots_of};
 use prz_read::Reading;
-use record_report::{PartState, Report, ZoneParts};
+use region_report::{PartState, Report, ZoneParts};
 use std::alloc::{AllocError, Global};
 use zone_spec::Zone;
 

@@ -6,7 +6,7 @@ ghost use Rattle.report_html.specs.Reads.{counted_parts, number_parts, read_part
 
 use crate::pieces::{Piece, add};
 use prz_read::Logs;
-use record_report::counts;
+use region_report::counts;
 use std::alloc::AllocError;
 use zone_spec::Name;
 

@@ -2,7 +2,11 @@
 ghost use Rattle.std.specs.Prelude.{◌≡◌, ◌++◌, ◌<◌, ◌^◌, OnOk};
 ghost use Rattle.std.specs.Option.{option_copied};
 ghost use Rattle.report_html.specs.Pieces.{parts};
-ghost use Rattle.report_html.specs.Pictures.{kind_words, zone_name, state_words, read_words, share as share_of, state_bar as bar_of_state, reading_bar as bar_of_reading, bar_words, used_by as bytes_used_by, used_bytes as bytes_used, label_opening as opening_of_label, fitting_parts, label_parts, place_parts, bar_parts, map_parts};
+ghost use Rattle.report_html.specs.Pictures.{kind_words, zone_name, state_words, read_words, share as share_of};
+ghost use Rattle.report_html.specs.Pictures.{state_bar as bar_of_state, reading_bar as bar_of_reading, bar_words};
+ghost use Rattle.report_html.specs.Pictures.{used_by as bytes_used_by, used_bytes as bytes_used};
+ghost use Rattle.report_html.specs.Pictures.{label_opening as opening_of_label, fitting_parts, label_parts};
+ghost use Rattle.report_html.specs.Pictures.{place_parts, bar_parts, map_parts};
 
 use crate::pieces::{Piece, add};
 use prz_read::Reading;

@@ -2,12 +2,14 @@
 ghost use Rattle.std.specs.Prelude.{◌≡◌, ◌<◌, ◌^◌, ◌++◌, flat_map, IfOk, OnOk};
 ghost use Rattle.report_html.specs.Pieces.{parts};
 ghost use Rattle.report_html.specs.Pictures.{runs};
-ghost use Rattle.report_html.specs.Spots.{is_clean, unclean, run_spots, zone_spots, spots_of, stretch_parts, place_of, size_of, each_words, verdict_parts, spot_parts, open_words, spots_opening, spots_parts};
+ghost use Rattle.report_html.specs.Spots.{is_clean, unclean, run_spots, zone_spots, spots_of, stretch_parts, place_of};
+ghost use Rattle.report_html.specs.Spots.{size_of, each_words, verdict_parts, spot_parts, open_words, spots_opening};
+ghost use Rattle.report_html.specs.Spots.{spots_parts};
 
 use crate::block_runs::{add_numbers, block_at, run_end};
 use crate::pieces::{Piece, add};
 use crate::region::add_zone_name;
-use record_report::{PartState, ZoneParts};
+use region_report::{PartState, ZoneParts};
 use std::alloc::{AllocError, Global};
 use zone_spec::Zone;
 

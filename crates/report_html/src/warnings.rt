@@ -3,15 +3,18 @@ ghost use Rattle.std.specs.Prelude.{◌≡◌, ◌++◌, length, OnOk};
 ghost use Rattle.std.specs.List.{list_any, count_by};
 ghost use Rattle.std.specs.Option.{option_copied};
 ghost use Rattle.prz_read.specs.Saving.{saved};
-ghost use Rattle.record_report.specs.Tellers.{told_in};
+ghost use Rattle.region_report.specs.Tellers.{told_in};
 ghost use Rattle.report_html.specs.Pieces.{parts};
-ghost use Rattle.report_html.specs.Warnings.{warning, lacking, console_warning, tells_badly as tells_badly_of, teller_warning, is_bad as is_bad_state, has_bad_header, bad_headers as bad_headers_parts, headers_warning, has_log, has_bad_part, layout_warning, warnings_parts};
+ghost use Rattle.report_html.specs.Warnings.{warning, lacking, console_warning, tells_badly as tells_badly_of};
+ghost use Rattle.report_html.specs.Warnings.{teller_warning, is_bad as is_bad_state, has_bad_header};
+ghost use Rattle.report_html.specs.Warnings.{bad_headers as bad_headers_parts, headers_warning, has_log, has_bad_part};
+ghost use Rattle.report_html.specs.Warnings.{layout_warning, warnings_parts};
 
 use crate::listed::is_console;
 use crate::names::add_link;
 use crate::pieces::{Piece, add};
 use prz_read::Logs;
-use record_report::{PartState, RecordReport, Report, Told, ZoneParts, counts, newest_dump};
+use region_report::{PartState, RecordReport, Report, Telling, ZoneParts, counts, newest_dump};
 use std::alloc::AllocError;
 use zone_spec::Name;
 
@@ -63,7 +66,7 @@ fn add_lacking(pieces: &mut Vec<Piece<'_>>, dump: Name) -> Result<(), AllocError
 fn add_console_warning(
     pieces: &mut Vec<Piece<'_>>,
     dump: Option<&RecordReport>,
-    told: Option<Told<'_>>,
+    told: Option<Telling<'_>>,
 ) -> Result<(), AllocError>
     ensures { OnOk result (parts pieces.new.items
         ≡ parts pieces.old.items ++ console_warning (option_copied dump.entry) (told_in told.entry)) }
@@ -80,7 +83,7 @@ fn add_console_warning(
 }
 
 /// Whether parts of the record that tells are bad.
-fn tells_badly(logs: &Logs, told: Option<Told<'_>>) -> bool
+fn tells_badly(logs: &Logs, told: Option<Telling<'_>>) -> bool
     ensures { result ≡ tells_badly_of (saved logs.now) (told_in told.entry) }
 {
     match told {
@@ -233,7 +236,7 @@ fn add_parts_warnings(pieces: &mut Vec<Piece<'_>>, zones: &[ZoneParts]) -> Resul
 pub fn add_warnings(
     pieces: &mut Vec<Piece<'_>>,
     report: &Report,
-    told: Option<Told<'_>>,
+    told: Option<Telling<'_>>,
 ) -> Result<(), AllocError>
     ensures { OnOk result (parts pieces.new.items
         ≡ parts pieces.old.items ++ warnings_parts report.now (told_in told.entry)) }

@@ -1,5 +1,6 @@
 -- The data of a report's line, schema 2
-use Rattle.std.specs.Prelude.{◌≡◌, ℕ, ◌-◌, ◌<◌, Bool, true, false, if◌then◌else◌, List, [], ◌∷◌, ◌++◌, length, map, take, slice_get, Option, Some, None, replicate, codes}
+use Rattle.std.specs.Prelude.{◌≡◌, ℕ, ◌-◌, ◌<◌, Bool, true, false, if◌then◌else◌, List, [], ◌∷◌, ◌++◌, length, map}
+use Rattle.std.specs.Prelude.{take, slice_get, Option, Some, None, replicate, codes}
 use Rattle.std.specs.Str.{is_utf8}
 use Rattle.std.specs.Str.Lossy.{utf8_valid_len}
 use Rattle.json.specs.Lex.{tokens}
@@ -38,8 +39,8 @@ use Rattle.report_spec.specs.declared.Packing.{Packing}
 use Rattle.report_spec.specs.declared.Packing.TheVariants.{Plain, Whole, Part}
 use Rattle.report_spec.specs.Packed.{RecordShown, fault_words, readable}
 use Rattle.report_spec.specs.Deaths.{DeathTold, death_told}
-use Rattle.record_report.specs.Counted.{zones_counted}
-use Rattle.record_report.specs.Reports.{ReportHeld}
+use Rattle.region_report.specs.Counted.{zones_counted}
+use Rattle.region_report.specs.Reports.{ReportHeld}
 
 abbrev pub count : ℕ → Data
 count n = number (unsigned n)

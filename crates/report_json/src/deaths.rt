@@ -2,15 +2,16 @@
 ghost use Rattle.std.specs.Prelude.{◌≡◌, map, IfOk};
 ghost use Rattle.serde_json.specs.View.{view};
 ghost use Rattle.report_spec.specs.Deaths.{death_told};
-ghost use Rattle.record_report.specs.Tellers.{as_told};
-ghost use Rattle.report_json.specs.Schema.{front_data, span_data, named_data, said_data, second_data, trace_data, death_with, told_data, death_data};
+ghost use Rattle.region_report.specs.Tellers.{as_told};
+ghost use Rattle.report_json.specs.Schema.{front_data, span_data, named_data, said_data, second_data, trace_data};
+ghost use Rattle.report_json.specs.Schema.{death_with, told_data, death_data};
 
 use crate::records::utf8_front;
 use arrayvec::ArrayString;
 use death::{part, trace};
 use death_spec::{Death, Line, Span};
 use pstore_records::name_text;
-use record_report::{RecordReport, Told, death_told};
+use region_report::{RecordReport, Telling, death_told};
 use serde_json::{Value, json};
 use std::alloc::{AllocError, Global};
 use zone_spec::Name;
@@ -100,7 +101,7 @@ fn death_with(
     })
 }
 
-fn told_value(alloc: Global, told: &Told<'_>) -> Result<Value, AllocError>
+fn told_value(alloc: Global, told: &Telling<'_>) -> Result<Value, AllocError>
     ensures { IfOk result (λ v. view v ≡ told_data (as_told told.now)) }
 {
     let teller: &RecordReport = told.teller;

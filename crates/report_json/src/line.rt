@@ -6,7 +6,7 @@ ghost use Rattle.report_json.specs.Schema.{line_with, IsLine};
 use crate::deaths::death_value;
 use crate::records::record_values;
 use crate::zones::{parameters_value, zone_values};
-use record_report::Report;
+use region_report::Report;
 use serde_json::{Value, json};
 use std::alloc::{AllocError, Global};
 use zone_spec::{Params, Zone};

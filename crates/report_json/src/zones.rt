@@ -2,10 +2,11 @@
 ghost use Rattle.std.specs.Prelude.{◌≡◌, ◌<◌, ◌++◌, length, map, replicate, Some, None, IfOk, OnOk};
 ghost use Rattle.serde_json.specs.Data.{array, null};
 ghost use Rattle.serde_json.specs.View.{view, items_of};
-ghost use Rattle.report_json.specs.Schema.{count, parameters_data, part_data, blocks_data, words_data, layout_data, zone_with, zone_data, kind_text, state_text, IsZoneAt, AreZones};
+ghost use Rattle.report_json.specs.Schema.{count, parameters_data, part_data, blocks_data, words_data, layout_data};
+ghost use Rattle.report_json.specs.Schema.{zone_with, zone_data, kind_text, state_text, IsZoneAt, AreZones};
 
 use prz_read::{Logs, Reading};
-use record_report::{PartState, ZoneParts};
+use region_report::{PartState, ZoneParts};
 use serde_json::{Value, json};
 use std::alloc::{AllocError, Global};
 use zone_spec::{Kind, Params, State, Words, Zone, ZoneName};

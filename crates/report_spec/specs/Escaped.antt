@@ -1,7 +1,8 @@
 -- The text in which a page shows bytes: printable ASCII, tab and newline as they are; each other byte and the backslash
 -- as `\x` and two digits, as /dev/kmsg shows them (kernel/printk/printk.c, msg_add_ext_text); and what is markup as a
 -- reference
-use Rattle.std.specs.Prelude.{◌≡◌, ℕ, ◌+◌, ◌/◌, ◌%◌, Bool, true, ◌&&◌, ◌||◌, not, if◌then◌else◌, ◌==◌, nat_le, nat_lt, List, [], ◌∷◌, codes, flat_map}
+use Rattle.std.specs.Prelude.{◌≡◌, ℕ, ◌+◌, ◌/◌, ◌%◌, Bool, true, ◌&&◌, ◌||◌, not, if◌then◌else◌, ◌==◌, nat_le, nat_lt}
+use Rattle.std.specs.Prelude.{List, [], ◌∷◌, codes, flat_map}
 use Rattle.std.specs.List.{list_all, list_any}
 use Rattle.zone_spec.specs.TimeLines.{begins_with}
 

@@ -1,14 +1,17 @@
 -- A record as it is shown: a dump whose time line says compressed has the text that its bytes stand for
 -- (fs/pstore/platform.c, decompress_record)
-use Rattle.std.specs.Prelude.{◌≡◌, ℕ, ◌*◌, ◌-◌, ◌≤◌, ⊤, true, false, List, [], ◌∷◌, ◌++◌, length, take, slice_get, codes, Option, Some, None}
+use Rattle.std.specs.Prelude.{◌≡◌, ℕ, ◌*◌, ◌-◌, ◌≤◌, ⊤, true, false, List, [], ◌∷◌, ◌++◌, length, take, slice_get}
+use Rattle.std.specs.Prelude.{codes, Option, Some, None}
 use Rattle.zone_spec.specs.declared.Name.{Name}
 use Rattle.zone_spec.specs.declared.Name.TheVariants.{Dump, Console, Pmsg, Ftrace}
 use Rattle.zone_spec.specs.declared.Time.{Time}
 use Rattle.zone_spec.specs.declared.Zone.{Zone}
 use Rattle.inflate_spec.specs.declared.Fault.{Fault}
-use Rattle.inflate_spec.specs.declared.Fault.TheVariants.{EndOfInput, ReservedBlock, StoredLength, TooManyCodes, OverSubscribed, Incomplete, NoEndCode, NoPrevious, TooManyLengths, MissingCode, DistanceTooFar}
+use Rattle.inflate_spec.specs.declared.Fault.TheVariants.{EndOfInput, ReservedBlock, StoredLength, TooManyCodes}
+use Rattle.inflate_spec.specs.declared.Fault.TheVariants.{OverSubscribed, Incomplete, NoEndCode, NoPrevious}
+use Rattle.inflate_spec.specs.declared.Fault.TheVariants.{TooManyLengths, MissingCode, DistanceTooFar}
 use Rattle.inflate_spec.specs.Texts.{Inflates, Breaks, Exceeds}
-use Rattle.trace_spec.specs.Lines.{trace_text}
+use Rattle.ftrace_spec.specs.Lines.{trace_text}
 use Rattle.pmsg_spec.specs.declared.Entry.{Entry}
 use Rattle.pmsg_spec.specs.Entries.{entries}
 use Rattle.pmsg_spec.specs.Lines.{lines_text}

@@ -1,6 +1,6 @@
 // Which record tells why a machine died, and by which line.
 use crate::worked_deaths::{CONSOLE, OOPS, PANIC, SILENT, report_on};
-use record_report::{RecordReport, death_told};
+use region_report::{RecordReport, death_told};
 use std::alloc::Global;
 use std::process::Abort;
 use std::test::Fail;

@@ -8,7 +8,7 @@ mod packed_dumps;
 #[cfg(test)]
 mod people_read_tests;
 #[cfg(test)]
-mod record_report_tests;
+mod region_report_tests;
 #[cfg(test)]
 mod report_html_tests;
 #[cfg(test)]

@@ -1,7 +1,7 @@
 // Images of one compressed dump, for the tests of each crate.
 use crate::whole_reports::{self, BARE};
 use ramoops_layout::Params;
-use record_report::Report;
+use region_report::Report;
 use std::alloc::Global;
 use std::test::Fail;
 

@@ -1,7 +1,7 @@
 // Android's log and an ftrace log, as people read them.
 use crate::whole_reports::{BARE, has, line_of, page_of, report_by, text_on};
 use ramoops_layout::Params;
-use record_report::{RecordReport, Report};
+use region_report::{RecordReport, Report};
 use std::alloc::Global;
 use std::process::Abort;
 use std::test::Fail;

@@ -1,7 +1,7 @@
 // Reports of images, and what each format makes of them.
 use outside::Bytes;
 use ramoops_layout::{Params, layout};
-use record_report::{Report, report_of};
+use region_report::{Report, report_of};
 use report_html::html;
 use report_json::json;
 use report_text::text;

@@ -1,7 +1,7 @@
 // Images of three dumps and a console, for the tests of why a machine died.
 use crate::whole_reports::{self, BARE};
 use ramoops_layout::Params;
-use record_report::Report;
+use region_report::Report;
 use std::alloc::Global;
 use std::test::Fail;
 

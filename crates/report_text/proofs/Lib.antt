@@ -2,9 +2,9 @@
 -- cite them.
 mod Cuts
 pub mod Deaths
-pub mod Shown
+pub mod VisibleBytes
 pub mod Rows
-pub mod Rendered
+pub mod PieceTexts
 pub mod RecordRows
-pub mod Tailed
-pub mod Cut
+pub mod LastLines
+pub mod RowCuts

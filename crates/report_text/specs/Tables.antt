@@ -1,9 +1,11 @@
 -- The tables of zones and of records
-use Rattle.std.specs.Prelude.{◌≡◌, ◌⊎◌, ℕ, ◌*◌, ◌≤◌, pos, unsigned_abs, if◌then◌else◌, List, [], ◌∷◌, ◌++◌, length, codes, Option, Some, None}
+use Rattle.std.specs.Prelude.{◌≡◌, ◌⊎◌, ℕ, ◌*◌, ◌≤◌, pos, unsigned_abs, if◌then◌else◌, List, [], ◌∷◌, ◌++◌, length}
+use Rattle.std.specs.Prelude.{codes, Option, Some, None}
 use Rattle.jiff_core.specs.declared.civil.datetime.DateTime.{DateTime}
 use Rattle.jiff.specs.Words.{civil_nanos}
 use Rattle.zone_spec.specs.declared.Kind.{Kind}
-use Rattle.zone_spec.specs.declared.Kind.TheVariants.{Dump as DumpKind, Console as ConsoleKind, Ftrace as FtraceKind, Pmsg as PmsgKind}
+use Rattle.zone_spec.specs.declared.Kind.TheVariants.{Dump as DumpKind, Console as ConsoleKind, Ftrace as FtraceKind}
+use Rattle.zone_spec.specs.declared.Kind.TheVariants.{Pmsg as PmsgKind}
 use Rattle.zone_spec.specs.declared.State.{State}
 use Rattle.zone_spec.specs.declared.State.TheVariants.{Unsigned, Empty, Invalid, Found}
 use Rattle.zone_spec.specs.declared.Name.{Name}

@@ -4,7 +4,7 @@ use Rattle.prz_read.specs.Saving.{SavedLogs, saved}
 use Rattle.report_spec.specs.Packed.{RecordShown}
 use Rattle.report_spec.specs.Newest.{newest, console_of, android_log_of}
 use Rattle.report_spec.specs.Deaths.{death_told}
-use Rattle.record_report.specs.Reports.{ReportHeld}
+use Rattle.region_report.specs.Reports.{ReportHeld}
 use Rattle.report_text.specs.Pieces.{Part, Words, Count, Bytes, parts_text}
 use Rattle.report_text.specs.Tables.{zone_row, AreRecordRows}
 use Rattle.report_text.specs.Tails.{tail_parts}

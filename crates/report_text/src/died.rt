@@ -1,7 +1,7 @@
 // Why the machine died, in two lines.
 ghost use Rattle.std.specs.Prelude.{◌≡◌, ◌++◌, OnOk};
 ghost use Rattle.report_spec.specs.Deaths.{death_told};
-ghost use Rattle.record_report.specs.Tellers.{as_told};
+ghost use Rattle.region_report.specs.Tellers.{as_told};
 ghost use Rattle.report_text.specs.Pieces.{parts};
 ghost use Rattle.report_text.specs.Tables.{Adds};
 ghost use Rattle.report_text.specs.Died.{named_parts, end_parts, context_parts, said_parts, IsWhen, IsDeath, IsDied};
@@ -10,7 +10,7 @@ use crate::pieces::{Piece, add};
 use crate::records::{add_name, add_time};
 use death::part;
 use death_spec::{Death, Span};
-use record_report::{RecordReport, Told, death_told};
+use region_report::{RecordReport, Telling, death_told};
 use std::alloc::AllocError;
 use zone_spec::Time;
 
@@ -90,7 +90,7 @@ fn add_when(pieces: &mut Vec<Piece<'_>>, time: Option<Time>) -> Result<(), Alloc
     }
 }
 
-fn add_death<'a>(pieces: &mut Vec<Piece<'a>>, told: &Told<'a>) -> Result<(), AllocError>
+fn add_death<'a>(pieces: &mut Vec<Piece<'a>>, told: &Telling<'a>) -> Result<(), AllocError>
     ensures { OnOk result (Adds (IsDeath (as_told told.now)) (parts pieces.old.items) (parts pieces.new.items)) }
 {
     let teller: &'a RecordReport = told.teller;

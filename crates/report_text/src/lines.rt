@@ -2,13 +2,14 @@
 ghost use Rattle.std.specs.Prelude.{◌≡◌, ◌≤◌, ◌++◌, [], drop, length, OnOk};
 ghost use Rattle.std.specs.Option.{option_copied};
 ghost use Rattle.report_text.specs.Pieces.{parts};
-ghost use Rattle.report_text.specs.Tails.{last_lines, rows_from, row_parts, rows_parts, columns, break_parts, tail_parts};
+ghost use Rattle.report_text.specs.Tails.{last_lines, rows_from, row_parts, rows_parts, columns, break_parts};
+ghost use Rattle.report_text.specs.Tails.{tail_parts};
 ghost use Rattle.report_text.specs.Whole.{tails};
 
 use crate::pieces::{Piece, add};
 use crate::visible::is_plain;
 use outside::Bytes;
-use record_report::{Packing, RecordReport, android_log, console, newest_dump};
+use region_report::{Packing, RecordReport, android_log, console, newest_dump};
 use std::alloc::AllocError;
 
 /// How many lines of the console and of Android's log are shown.

@@ -9,7 +9,7 @@ use crate::pieces::{Piece, add};
 use jiff::Timestamp;
 use jiff::civil::DateTime;
 use jiff::tz::Offset;
-use record_report::RecordReport;
+use region_report::RecordReport;
 use std::alloc::AllocError;
 use zone_spec::{Name, Time};
 

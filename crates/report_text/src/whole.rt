@@ -11,7 +11,7 @@ use crate::pieces::{Piece, add, render};
 use crate::records::add_records;
 use crate::zones::add_zones;
 use outside::Bytes;
-use record_report::Report;
+use region_report::Report;
 use std::alloc::{AllocError, Global};
 use zone_spec::Zone;
 

@@ -1,5 +1,6 @@
 -- A text split at the first of a byte, once or at each
-use Rattle.std.proofs.Common.{◌||◌, All, ◌≡◌, ℕ, ◌<◌, ◌==◌, Bool, true, false, List, [], ◌∷◌, ◌++◌, length, Option, Some, None, refl, sym, ap, ◌∙◌, arith, Bor}
+use Rattle.std.proofs.Common.{◌||◌, All, ◌≡◌, ℕ, ◌<◌, ◌==◌, Bool, true, false, List, [], ◌∷◌, ◌++◌, length, Option}
+use Rattle.std.proofs.Common.{Some, None, refl, sym, ap, ◌∙◌, arith, Bor}
 use Rattle.std.specs.Option.{option_map}
 use Rattle.std.specs.List.{list_any, position_or_len, before_first, after_first, slice_split, filter}
 use Rattle.std.proofs.lemmas.List.Elements.{filter-append, All-cons, All-nil}

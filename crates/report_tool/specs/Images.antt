@@ -2,7 +2,7 @@
 use Rattle.std.specs.Prelude.{◌≡◌, ℕ, ◌≤◌, List, length, take, ⊤, Option, IfSome}
 use Rattle.std.specs.Io.KnownBytes.{Appends}
 use Rattle.outside.specs.Outside.{Rose, AppendsFront}
-use Rattle.record_report.specs.Reports.{ReportHeld, IsReport}
+use Rattle.region_report.specs.Reports.{ReportHeld, IsReport}
 use Rattle.command_spec.specs.declared.Stop.{Stop}
 use Rattle.command_spec.specs.declared.Stop.TheVariants.{Memory, ImageFault, Short, SinkFault}
 use Rattle.image_file.specs.Loading.{LoadStop}

@@ -2,7 +2,7 @@
 use Rattle.std.specs.Prelude.{◌≡◌, ℕ, true, List, [], ◌∷◌, ◌++◌, length}
 use Rattle.std.specs.List.{list_all}
 use Rattle.report_spec.specs.Visible.{is_visible}
-use Rattle.record_report.specs.Reports.{ReportHeld}
+use Rattle.region_report.specs.Reports.{ReportHeld}
 use Rattle.report_text.specs.Whole.{IsTextOf}
 use Rattle.report_json.specs.Schema.{IsLine}
 use Rattle.report_html.specs.Pages.{page_of}

@@ -9,7 +9,7 @@ use crate::showing::{Format, shown};
 use crate::{Plan, Stop};
 use image_file::load;
 use outside::{Bytes, Failed, Load, Sink};
-use record_report::{Report, report_of_zones};
+use region_report::{Report, report_of_zones};
 use std::alloc::Global;
 
 // Reads an image.

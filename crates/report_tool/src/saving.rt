@@ -7,7 +7,7 @@ ghost use Rattle.report_tool.specs.Saved.{Makes, MakesFirst, files_of};
 use arrayvec::ArrayString;
 use outside::Failed;
 use pstore_records::name_text;
-use record_report::{RecordReport, Report};
+use region_report::{RecordReport, Report};
 
 /// A folder in which files are made.
 pub trait Folder {

@@ -3,7 +3,7 @@ ghost use Rattle.std.specs.Prelude.{IfOk};
 ghost use Rattle.report_tool.specs.Shown.{Shows, IsOf};
 
 use crate::Plan;
-use record_report::Report;
+use region_report::Report;
 use report_html::html;
 use report_json::json;
 use report_text::text;

@@ -5,8 +5,9 @@ ghost use Rattle.std.specs.Option.{option_copied};
 ghost use Rattle.grammar_spec.specs.Words.{texts};
 ghost use Rattle.grammar_spec.specs.ZoneWords.{given as given_by};
 ghost use Rattle.dtb_spec.specs.Ramoops.{nodes_of};
-ghost use Rattle.dtb.specs.Told.{shown};
-ghost use Rattle.report_tool.specs.Trees.{numbers_found, only_numbers, numbers_meant, params_said, wants_cpus, params_over, params_in, IsTreePlan, IsTreeFault};
+ghost use Rattle.dtb.specs.ReaderAnswers.{shown};
+ghost use Rattle.report_tool.specs.Trees.{numbers_found, only_numbers, numbers_meant, params_said, wants_cpus};
+ghost use Rattle.report_tool.specs.Trees.{params_over, params_in, IsTreePlan, IsTreeFault};
 
 use crate::Plan;
 use dtb::{DtbError, Fault, Node, Numbers, ramoops_nodes};

@@ -1,5 +1,7 @@
 -- A boot leaves each zone in ring form for what it kept, at every parity
-use Rattle.std.proofs.Common.{◌≡◌, ℕ, zero, suc, ◌+◌, ◌-◌, ◌*◌, ◌<◌, ◌≤◌, List, [], ◌∷◌, length, take, flat_map, get_or, refl, sym, ap, ◌∙◌, subst, arith, inl, inr, Option, Some, None, ◌⊎◌, ext_get_or, length-take-le}
+use Rattle.std.proofs.Common.{◌≡◌, ℕ, zero, suc, ◌+◌, ◌-◌, ◌*◌, ◌<◌, ◌≤◌, List, [], ◌∷◌, length, take, flat_map, get_or}
+use Rattle.std.proofs.Common.{refl, sym, ap, ◌∙◌, subst, arith, inl, inr, Option, Some, None, ◌⊎◌, ext_get_or}
+use Rattle.std.proofs.Common.{length-take-le}
 use Rattle.std.specs.List.{AllByRecursion, range_with_len}
 use Rattle.std.proofs.lemmas.Bool.{cases_eq}
 use Rattle.list_laws.proofs.Elements.{AllByRecursion-append}
@@ -8,7 +10,8 @@ use Rattle.zone_spec.specs.declared.State.{State}
 use Rattle.zone_spec.specs.declared.State.TheVariants.{Unsigned, Empty, Invalid, Found}
 use Rattle.zone_spec.specs.Zones.{IsValidZone}
 use Rattle.code_spec.specs.Code.{nearest, IsNear}
-use Rattle.zone_spec.specs.Parts.{AreBytes, Part, Header, Block, part_at, part_len, part_bytes, part_word, IsImage, IsPartOf}
+use Rattle.zone_spec.specs.Parts.{AreBytes, Part, Header, Block, part_at, part_len, part_bytes, part_word, IsImage}
+use Rattle.zone_spec.specs.Parts.{IsPartOf}
 use Rattle.zone_spec.specs.PartReadings.{part_reading, words_read}
 use Rattle.zone_spec.specs.Reading.{zone_reading, ZoneReading}
 use Rattle.zone_spec.specs.Stores.{Store, after_stores}
@@ -17,11 +20,14 @@ use Rattle.zone_spec.specs.Boot.{fix_stores, part_fixes, blocks_read, boot_fixes
 use Rattle.code_laws.proofs.Nearest.{nearest-IsNear}
 use Rattle.ring_laws.proofs.Images.{length-after_stores}
 use Rattle.ring_laws.proofs.PartsLaw.{block_some, slice_range-bytes}
-use Rattle.ring_laws.proofs.PartWords.{length-part_bytes, part_bytes-word, reading_near, reading_none, part_word-IsWord, bytes-each}
+use Rattle.ring_laws.proofs.PartWords.{length-part_bytes, part_bytes-word, reading_near, reading_none, part_word-IsWord}
+use Rattle.ring_laws.proofs.PartWords.{bytes-each}
 use Rattle.ring_laws.proofs.EveryParity.{part-bytes}
 use Rattle.ring_laws.proofs.StoreBytes.{IsStore, all-take, after-bytes, one-byte}
 use Rattle.ring_laws.proofs.States.{Says, state_says, reading_words, reading_state, below_count, count_below}
-use Rattle.ring_laws.proofs.Fixes.{Fixes, IsFix, Fixed, HasStoreAt, IsMended, fix_stores-all, has_fix, has_left, has_right, some_fixed, fixed_there, one_part, fixed_toward, toward_mended, length-bytes_most, length-inside, part_byte}
+use Rattle.ring_laws.proofs.Fixes.{Fixes, IsFix, Fixed, HasStoreAt, IsMended, fix_stores-all, has_fix, has_left}
+use Rattle.ring_laws.proofs.Fixes.{has_right, some_fixed, fixed_there, one_part, fixed_toward, toward_mended}
+use Rattle.ring_laws.proofs.Fixes.{length-bytes_most, length-inside, part_byte}
 
 -- ---- the corrections
 

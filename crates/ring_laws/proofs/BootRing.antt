@@ -1,5 +1,7 @@
 -- A boot leaves each zone in ring form for what it kept, at every parity
-use Rattle.std.proofs.Common.{◌≡◌, ℕ, ◌+◌, ◌*◌, ◌/◌, ◌%◌, ◌<◌, ◌≤◌, Bool, true, false, cond, not, ◌&&◌, ◌==◌, List, [], ◌∷◌, ◌++◌, take, map, get_or, refl, sym, ap, ◌∙◌, subst, arith, inl, inr, w32, eq-eqb, true≢false, ◌||◌}
+use Rattle.std.proofs.Common.{◌≡◌, ℕ, ◌+◌, ◌*◌, ◌/◌, ◌%◌, ◌<◌, ◌≤◌, Bool, true, false, cond, not, ◌&&◌, ◌==◌, List, []}
+use Rattle.std.proofs.Common.{◌∷◌, ◌++◌, take, map, get_or, refl, sym, ap, ◌∙◌, subst, arith, inl, inr, w32, eq-eqb}
+use Rattle.std.proofs.Common.{true≢false, ◌||◌}
 use Rattle.std.specs.Int.{to_le_bytes}
 use Rattle.std.specs.List.{AllByRecursion}
 use Rattle.std.proofs.lemmas.Bool.Decides.{nat_tests}
@@ -15,7 +17,8 @@ use Rattle.zone_spec.specs.declared.State.TheVariants.{Unsigned, Empty, Invalid,
 use Rattle.zone_spec.specs.Zones.{IsValidZone}
 use Rattle.zone_spec.specs.Parts.{Part, Header, Block, part_bytes, words_in, standing_words, IsImage}
 use Rattle.zone_spec.specs.PartReadings.{part_reading, words_read}
-use Rattle.zone_spec.specs.Reading.{IsRing, log_places, log_read, byte_read, state_of, reading_in, zone_reading, ZoneReading}
+use Rattle.zone_spec.specs.Reading.{IsRing, log_places, log_read, byte_read, state_of, reading_in, zone_reading}
+use Rattle.zone_spec.specs.Reading.{ZoneReading}
 use Rattle.zone_spec.specs.Stores.{put, after_stores}
 use Rattle.zone_spec.specs.Stages.{Stage, SigWord, stage_stores, stores_in_turn}
 use Rattle.zone_spec.specs.Calls.{erase_stages}
@@ -30,7 +33,8 @@ use Rattle.ring_laws.proofs.CallLaw.{erase_law, ring_none}
 use Rattle.ring_laws.proofs.StoreBytes.{IsStore, HasBytes, all-take, after-bytes, stores_in_turn-all}
 use Rattle.ring_laws.proofs.ReadingLaw.{byte_read-stands}
 use Rattle.ring_laws.proofs.States.{Says, state_says, state_in_reading, reading_is, log_same}
-use Rattle.ring_laws.proofs.BootLaw.{IsRead, booted_bytes, booted_image, booted_mended, stands_as_read, read_stands, boot_fixes-all, fixes-stores}
+use Rattle.ring_laws.proofs.BootLaw.{IsRead, booted_bytes, booted_image, booted_mended, stands_as_read, read_stands}
+use Rattle.ring_laws.proofs.BootLaw.{boot_fixes-all, fixes-stores}
 
 never : (b : Bool) → (b && false) ≡ true → ⊥
 never true e = true≢false (sym e)

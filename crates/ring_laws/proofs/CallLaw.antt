@@ -1,5 +1,6 @@
 -- Every finished call keeps its zone in ring form for what was told, at every parity
-use Rattle.std.proofs.Common.{◌≡◌, ℕ, ◌+◌, ◌-◌, ◌%◌, ◌<◌, ◌≤◌, List, [], ◌∷◌, ◌++◌, length, take, refl, sym, ap, ◌∙◌, subst, arith, length-take, length-append, length-drop, w32, append-nil}
+use Rattle.std.proofs.Common.{◌≡◌, ℕ, ◌+◌, ◌-◌, ◌%◌, ◌<◌, ◌≤◌, List, [], ◌∷◌, ◌++◌, length, take, refl, sym, ap, ◌∙◌}
+use Rattle.std.proofs.Common.{subst, arith, length-take, length-append, length-drop, w32, append-nil}
 use Rattle.std.proofs.Math.Nat.{mod-eq_of_lt}
 use Rattle.std.specs.Int.{to_le_bytes}
 use Rattle.zone_spec.specs.declared.Zone.{Zone}
@@ -14,10 +15,12 @@ use Rattle.zone_spec.specs.Stages.{ParityOf, stage_stores}
 use Rattle.zone_spec.specs.Calls.{append_stages, erase_stages, call_stages, call_stores, image_after, CanBegin}
 use Rattle.zone_spec.specs.Ring.{IsRingForm, ReadsAsStands, IsOpen, IsOpenUnlessDump}
 use Rattle.ring_laws.proofs.Images.{length-put, put-below, put-inside}
-use Rattle.ring_laws.proofs.AppendLaw.{appended, all_stages, stage_image, all_stages-append, word_of-stored, word_of-same, length-all_stages}
+use Rattle.ring_laws.proofs.AppendLaw.{appended, all_stages, stage_image, all_stages-append, word_of-stored}
+use Rattle.ring_laws.proofs.AppendLaw.{word_of-same, length-all_stages}
 use Rattle.ring_laws.proofs.RingLaw.{appended-start, image_after-all, last_items-short, last_items-append}
 use Rattle.ring_laws.proofs.PartsLaw.{put-bytes, parity-own, parity-bytes, stage_parity-data}
-use Rattle.ring_laws.proofs.EveryParity.{append_keeps, AppendLeaves, append_leaves, word-bytes, standing_words-same, part-bytes}
+use Rattle.ring_laws.proofs.EveryParity.{append_keeps, AppendLeaves, append_leaves, word-bytes, standing_words-same}
+use Rattle.ring_laws.proofs.EveryParity.{part-bytes}
 use Rattle.ring_laws.proofs.PartWords.{has_parity}
 
 -- the image after an erasure's words

@@ -1,5 +1,8 @@
 -- An append keeps a zone in ring form for what it was told, at every parity
-use Rattle.std.proofs.Common.{◌≡◌, ℕ, zero, suc, ◌+◌, ◌-◌, ◌*◌, ◌%◌, ◌^◌, ◌<◌, ◌≤◌, min, Bool, true, false, cond, ◌==◌, ◌⊎◌, List, [], ◌∷◌, ◌++◌, length, take, drop, get_or, refl, sym, ap, ◌∙◌, subst, arith, inl, inr, length-take, length-drop, w32, mul_comm, get_or-take, get_or-drop, mul-le-mul_right}
+use Rattle.std.proofs.Common.{◌≡◌, ℕ, zero, suc, ◌+◌, ◌-◌, ◌*◌, ◌%◌, ◌^◌, ◌<◌, ◌≤◌, min, Bool, true, false, cond, ◌==◌}
+use Rattle.std.proofs.Common.{◌⊎◌, List, [], ◌∷◌, ◌++◌, length, take, drop, get_or, refl, sym, ap, ◌∙◌, subst, arith}
+use Rattle.std.proofs.Common.{inl, inr, length-take, length-drop, w32, mul_comm, get_or-take, get_or-drop}
+use Rattle.std.proofs.Common.{mul-le-mul_right}
 use Rattle.std.proofs.lemmas.Bool.{cases_lt}
 use Rattle.std.proofs.lemmas.List.{get_or_past}
 use Rattle.std.specs.Int.{to_le_bytes}
@@ -13,9 +16,13 @@ use Rattle.zone_spec.specs.Calls.{run_stages, append_stages}
 use Rattle.zone_spec.specs.Ring.{IsRingForm, ReadsAsStands}
 use Rattle.ring_laws.proofs.Images.{length-put, put-above}
 use Rattle.ring_laws.proofs.RingBytes.{RingBytes, AppendedBytes, RingBytes-append, log-RingBytes, RingBytes-log}
-use Rattle.ring_laws.proofs.AppendLaw.{length-all_stages, all_stages, all_stages-append, stage_image, size_put, appended, all_stages-size, start_last}
-use Rattle.ring_laws.proofs.RingLaw.{appended-AppendedBytes, appended-sig, appended-start, appended-size, open_after, open_at, length-size_put}
-use Rattle.ring_laws.proofs.PartsLaw.{block_some, HasParity, SamePart, SamePart-trans, SamePart-places, ReadsAsStands-same, SameData, SameData-trans, SameData-put, put-bytes, parity-own, parity-other, parity-bytes, stage_parity-data, slice_range-same}
+use Rattle.ring_laws.proofs.AppendLaw.{length-all_stages, all_stages, all_stages-append, stage_image, size_put}
+use Rattle.ring_laws.proofs.AppendLaw.{appended, all_stages-size, start_last}
+use Rattle.ring_laws.proofs.RingLaw.{appended-AppendedBytes, appended-sig, appended-start, appended-size, open_after}
+use Rattle.ring_laws.proofs.RingLaw.{open_at, length-size_put}
+use Rattle.ring_laws.proofs.PartsLaw.{block_some, HasParity, SamePart, SamePart-trans, SamePart-places}
+use Rattle.ring_laws.proofs.PartsLaw.{ReadsAsStands-same, SameData, SameData-trans, SameData-put, put-bytes, parity-own}
+use Rattle.ring_laws.proofs.PartsLaw.{parity-other, parity-bytes, stage_parity-data, slice_range-same}
 use Rattle.ring_laws.proofs.RunLaw.{RunLeaves, run_leaves, cap_within}
 
 pub word-bytes : (n : ℕ) → AreBytes (to_le_bytes w32 n)

@@ -1,5 +1,9 @@
 -- What the corrections of a boot leave, after any number of them
-use Rattle.std.proofs.Common.{◌≡◌, ◌≢◌, ℕ, zero, suc, ◌+◌, ◌-◌, ◌*◌, ◌<◌, ◌≤◌, ◌⊎◌, List, [], ◌∷◌, ◌++◌, length, take, drop, get_or, set, slice_range, Bool, true, false, cond, ◌==◌, refl, sym, ap, ap₂, ◌∙◌, subst, arith, inl, inr, Option, Some, None, length-take, length-drop, length-append, length-set, get_or-take, get_or-set_same, get_or-set_other, eqb-true, mul-le-mul_right, mul_comm}
+use Rattle.std.proofs.Common.{◌≡◌, ◌≢◌, ℕ, zero, suc, ◌+◌, ◌-◌, ◌*◌, ◌<◌, ◌≤◌, ◌⊎◌, List, [], ◌∷◌, ◌++◌, length, take}
+use Rattle.std.proofs.Common.{drop, get_or, set, slice_range, Bool, true, false, cond, ◌==◌, refl, sym, ap, ap₂, ◌∙◌}
+use Rattle.std.proofs.Common.{subst, arith, inl, inr, Option, Some, None, length-take, length-drop, length-append}
+use Rattle.std.proofs.Common.{length-set, get_or-take, get_or-set_same, get_or-set_other, eqb-true, mul-le-mul_right}
+use Rattle.std.proofs.Common.{mul_comm}
 use Rattle.std.proofs.lemmas.Bool.{cases_lt, cases_eq}
 use Rattle.std.proofs.lemmas.List.{get_or_past, get_or_append_left, get_or-append_right}
 use Rattle.std.specs.List.{AllByRecursion}
@@ -8,14 +12,16 @@ use Rattle.list_laws.proofs.Elements.{AllByRecursion-append}
 use Rattle.zone_spec.specs.declared.Zone.{Zone}
 use Rattle.zone_spec.specs.Zones.{IsValidZone}
 use Rattle.code_spec.specs.Code.{nearest}
-use Rattle.zone_spec.specs.Parts.{AreBytes, Part, Header, Block, part_at, part_len, part_parity_at, part_bytes, part_word}
+use Rattle.zone_spec.specs.Parts.{AreBytes, Part, Header, Block, part_at, part_len, part_parity_at, part_bytes}
+use Rattle.zone_spec.specs.Parts.{part_word}
 use Rattle.zone_spec.specs.PartReadings.{part_reading}
 use Rattle.zone_spec.specs.Stores.{Store, put, after_stores}
 use Rattle.zone_spec.specs.Boot.{fix_stores}
 use Rattle.code_laws.specs.Toward.{IsToward, StandsFor}
 use Rattle.code_laws.proofs.Toward.{toward}
 use Rattle.ring_laws.proofs.Images.{length-put}
-use Rattle.ring_laws.proofs.PartWords.{part_word-IsWord, length-part_bytes, length-part_word, part_word-short, part_bytes-word, reading_near, reading_none}
+use Rattle.ring_laws.proofs.PartWords.{part_word-IsWord, length-part_bytes, length-part_word, part_word-short}
+use Rattle.ring_laws.proofs.PartWords.{part_bytes-word, reading_near, reading_none}
 
 -- ---- the bytes of a word of a part, by their places in the image
 

@@ -1,5 +1,6 @@
 -- The words of a header's bytes, alone or before their parity
-use Rattle.std.proofs.Common.{◌≡◌, ℕ, ◌+◌, ◌<◌, ◌≤◌, List, length, take, get_or, slice_range, sym, ap, ◌∙◌, arith, w32, get_or-take, length-append}
+use Rattle.std.proofs.Common.{◌≡◌, ℕ, ◌+◌, ◌<◌, ◌≤◌, List, length, take, get_or, slice_range, sym, ap, ◌∙◌, arith, w32}
+use Rattle.std.proofs.Common.{get_or-take, length-append}
 use Rattle.std.specs.Int.{from_le_bytes}
 use Rattle.list_laws.proofs.Slices.{length-slice_range, get_or-slice_range}
 use Rattle.zone_spec.specs.declared.Zone.{Zone}

@@ -1,5 +1,7 @@
 -- What stores leave
-use Rattle.std.proofs.Common.{◌≡◌, ℕ, zero, suc, ◌+◌, ◌<◌, ◌≤◌, List, [], ◌∷◌, ◌++◌, length, set, get_or, refl, sym, ap, ◌∙◌, arith, length-set, get_or-set_other, get_or-set_same, ◌≢◌, length-append, append_assoc}
+use Rattle.std.proofs.Common.{◌≡◌, ℕ, zero, suc, ◌+◌, ◌<◌, ◌≤◌, List, [], ◌∷◌, ◌++◌, length, set, get_or, refl, sym, ap}
+use Rattle.std.proofs.Common.{◌∙◌, arith, length-set, get_or-set_other, get_or-set_same, ◌≢◌, length-append}
+use Rattle.std.proofs.Common.{append_assoc}
 use Rattle.zone_spec.specs.declared.Zone.{Zone}
 use Rattle.zone_spec.specs.Told.{Call}
 use Rattle.zone_spec.specs.Stores.{Store, put, after_stores, byte_stores}

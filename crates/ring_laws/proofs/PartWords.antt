@@ -1,5 +1,7 @@
 -- The words of a zone's parts, and what the code says of them
-use Rattle.std.proofs.Common.{◌≡◌, ℕ, zero, suc, ◌+◌, ◌-◌, ◌<◌, ◌≤◌, List, [], ◌∷◌, ◌++◌, length, take, drop, get_or, slice_range, refl, ap, arith, length-take, length-drop, length-append, take_at, Some, None, IsTrue}
+use Rattle.std.proofs.Common.{◌≡◌, ℕ, zero, suc, ◌+◌, ◌-◌, ◌<◌, ◌≤◌, List, [], ◌∷◌, ◌++◌, length, take, drop, get_or}
+use Rattle.std.proofs.Common.{slice_range, refl, ap, arith, length-take, length-drop, length-append, take_at, Some}
+use Rattle.std.proofs.Common.{None, IsTrue}
 use Rattle.std.specs.List.{AllByRecursion}
 use Rattle.list_laws.proofs.Elements.{AllByRecursion-append}
 use Rattle.zone_spec.specs.declared.Zone.{Zone}

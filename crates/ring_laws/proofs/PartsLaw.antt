@@ -1,12 +1,16 @@
 -- What stores do to the parts of a zone, at every parity
-use Rattle.std.proofs.Common.{◌≡◌, ◌≢◌, ℕ, zero, suc, ◌+◌, ◌-◌, ◌*◌, ◌<◌, ◌≤◌, min, ◌⊎◌, List, [], ◌∷◌, ◌++◌, length, take, drop, map, get_or, slice_range, refl, sym, ap, ap₂, ◌∙◌, subst, arith, inl, inr, length-take, length-drop, get_or-take, get_or-drop, take_at, set, length-set, get_or-set_same, get_or-set_other, Some, IsTrue, mul-le-mul_right, add-mul}
+use Rattle.std.proofs.Common.{◌≡◌, ◌≢◌, ℕ, zero, suc, ◌+◌, ◌-◌, ◌*◌, ◌<◌, ◌≤◌, min, ◌⊎◌, List, [], ◌∷◌, ◌++◌, length}
+use Rattle.std.proofs.Common.{take, drop, map, get_or, slice_range, refl, sym, ap, ap₂, ◌∙◌, subst, arith, inl, inr}
+use Rattle.std.proofs.Common.{length-take, length-drop, get_or-take, get_or-drop, take_at, set, length-set}
+use Rattle.std.proofs.Common.{get_or-set_same, get_or-set_other, Some, IsTrue, mul-le-mul_right, add-mul}
 use Rattle.std.proofs.lemmas.Bool.{cases_lt, cases_eq}
 use Rattle.std.proofs.lemmas.List.{same_lists, get_or_default, get_or_past}
 use Rattle.std.specs.List.{range_with_len}
 use Rattle.zone_spec.specs.declared.Zone.{Zone}
 use Rattle.zone_spec.specs.Zones.{IsValidZone}
 use Rattle.code_spec.specs.Code.{is_codeword, nearest, parity_of}
-use Rattle.zone_spec.specs.Parts.{AreBytes, Part, Header, Block, part_at, part_len, part_parity_at, part_bytes, part_word}
+use Rattle.zone_spec.specs.Parts.{AreBytes, Part, Header, Block, part_at, part_len, part_parity_at, part_bytes}
+use Rattle.zone_spec.specs.Parts.{part_word}
 use Rattle.zone_spec.specs.Stages.{ParityOf, stage_stores}
 use Rattle.zone_spec.specs.Stores.{put}
 use Rattle.zone_spec.specs.Ring.{ReadsAsStands}

@@ -1,5 +1,7 @@
 -- What an append leaves of words and data
-use Rattle.std.proofs.Common.{◌≡◌, ℕ, ◌+◌, ◌-◌, ◌%◌, ◌^◌, ◌<◌, ◌≤◌, min, Bool, true, false, ◌==◌, List, ◌++◌, length, take, drop, get_or, refl, sym, ap, ◌∙◌, arith, inl, inr, length-append, length-drop, length-take, get_or-drop, get_or-take, w32, take_all, mod-lt, eqb-true}
+use Rattle.std.proofs.Common.{◌≡◌, ℕ, ◌+◌, ◌-◌, ◌%◌, ◌^◌, ◌<◌, ◌≤◌, min, Bool, true, false, ◌==◌, List, ◌++◌, length}
+use Rattle.std.proofs.Common.{take, drop, get_or, refl, sym, ap, ◌∙◌, arith, inl, inr, length-append, length-drop}
+use Rattle.std.proofs.Common.{length-take, get_or-drop, get_or-take, w32, take_all, mod-lt, eqb-true}
 use Rattle.std.proofs.lemmas.Bool.{cases_lt}
 use Rattle.std.proofs.lemmas.List.{drop-drop, drop_at}
 use Rattle.std.proofs.Math.Nat.{mod-eq_of_lt}
@@ -15,7 +17,8 @@ use Rattle.zone_spec.specs.Calls.{call_stages, call_stores, image_after}
 use Rattle.zone_spec.specs.Ring.{IsOpenUnlessDump}
 use Rattle.ring_laws.proofs.Images.{length-put, put-below, put-above, put-inside}
 use Rattle.ring_laws.proofs.RingBytes.{AppendedBytes, mod_once}
-use Rattle.ring_laws.proofs.AppendLaw.{size_put, appended, all_stages, after_stores-stores_in_turn, word_of-stored, word_of-same}
+use Rattle.ring_laws.proofs.AppendLaw.{size_put, appended, all_stages, after_stores-stores_in_turn, word_of-stored}
+use Rattle.ring_laws.proofs.AppendLaw.{word_of-same}
 
 -- a byte that an append leaves at a place of the image that no run meets
 pub appended-header : (z : Zone) (start size : ℕ) (q image : List ℕ) (i : ℕ) → i < 12 →

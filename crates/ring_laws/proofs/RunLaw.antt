@@ -1,5 +1,6 @@
 -- What a run and an append leave of a zone's parts, at every parity
-use Rattle.std.proofs.Common.{◌≡◌, ℕ, ◌+◌, ◌-◌, ◌*◌, ◌/◌, ◌<◌, ◌≤◌, ◌⊎◌, List, [], ◌∷◌, length, map, refl, sym, ◌∙◌, subst, arith, inl, inr, mul_comm, add-mul, div-mul-le_self}
+use Rattle.std.proofs.Common.{◌≡◌, ℕ, ◌+◌, ◌-◌, ◌*◌, ◌/◌, ◌<◌, ◌≤◌, ◌⊎◌, List, [], ◌∷◌, length, map, refl, sym, ◌∙◌}
+use Rattle.std.proofs.Common.{subst, arith, inl, inr, mul_comm, add-mul, div-mul-le_self}
 use Rattle.std.proofs.Math.Nat.{div-lt_iff_lt-mul, le-div_iff_mul-le, lt-div-mul-add}
 use Rattle.std.specs.List.{range_with_len}
 use Rattle.zone_spec.specs.declared.Zone.{Zone}
@@ -11,7 +12,8 @@ use Rattle.zone_spec.specs.Calls.{run_stages}
 use Rattle.zone_spec.specs.Ring.{ReadsAsStands}
 use Rattle.ring_laws.proofs.Images.{length-put, put-below, put-above, after_stores-byte_stores}
 use Rattle.ring_laws.proofs.AppendLaw.{all_stages, stage_image}
-use Rattle.ring_laws.proofs.PartsLaw.{block_some, HasParity, SamePart, SamePart-trans, SamePart-places, SameData, SameData-refl, LeavesParts, parities_leave, put-bytes}
+use Rattle.ring_laws.proofs.PartsLaw.{block_some, HasParity, SamePart, SamePart-trans, SamePart-places, SameData}
+use Rattle.ring_laws.proofs.PartsLaw.{SameData-refl, LeavesParts, parities_leave, put-bytes}
 
 -- the blocks hold all data
 pub cap_within : (z : Zone) → IsValidZone z → z.cap ≤ z.blocks * z.block

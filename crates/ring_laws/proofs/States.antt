@@ -1,5 +1,7 @@
 -- What the state that a boot reads says of the words
-use Rattle.std.proofs.Common.{◌≡◌, ℕ, zero, suc, ◌+◌, ◌-◌, ◌*◌, ◌/◌, ◌<◌, ◌≤◌, Bool, true, false, cond, ◌||◌, ◌==◌, nat_lt, List, ◌∷◌, ◌++◌, map, refl, sym, ap₂, ◌∙◌, arith, inl, inr, ltb-false, eq-eqb, add-mul, mul_comm}
+use Rattle.std.proofs.Common.{◌≡◌, ℕ, zero, suc, ◌+◌, ◌-◌, ◌*◌, ◌/◌, ◌<◌, ◌≤◌, Bool, true, false, cond, ◌||◌, ◌==◌}
+use Rattle.std.proofs.Common.{nat_lt, List, ◌∷◌, ◌++◌, map, refl, sym, ap₂, ◌∙◌, arith, inl, inr, ltb-false, eq-eqb}
+use Rattle.std.proofs.Common.{add-mul, mul_comm}
 use Rattle.std.proofs.Math.Nat.{le-div_iff_mul-le}
 use Rattle.std.proofs.lemmas.Bool.Decides.{nat_tests}
 use Rattle.std.proofs.lemmas.Bool.{cases_eq}

@@ -1,15 +1,19 @@
 -- The stores of calls and boots are of bytes, and keep an image one of bytes
-use Rattle.std.proofs.Common.{ℕ, zero, suc, ◌+◌, ◌-◌, ◌%◌, ◌<◌, List, [], ◌∷◌, ◌++◌, length, take, drop, map, min, Bool, true, false, cond, ◌==◌, ◌∙◌}
+use Rattle.std.proofs.Common.{ℕ, zero, suc, ◌+◌, ◌-◌, ◌%◌, ◌<◌, List, [], ◌∷◌, ◌++◌, length, take, drop, map, min, Bool}
+use Rattle.std.proofs.Common.{true, false, cond, ◌==◌, ◌∙◌}
 use Rattle.std.specs.List.{AllByRecursion}
 use Rattle.list_laws.proofs.Elements.{AllByRecursion-append}
 use Rattle.zone_spec.specs.declared.Zone.{Zone}
 use Rattle.zone_spec.specs.declared.Words.{Words}
 use Rattle.zone_spec.specs.Zones.{IsValidZone}
-use Rattle.zone_spec.specs.Parts.{AreBytes, Header, Block, standing_words, part_bytes, part_at, part_len, part_parity_at, IsImage}
+use Rattle.zone_spec.specs.Parts.{AreBytes, Header, Block, standing_words, part_bytes, part_at, part_len}
+use Rattle.zone_spec.specs.Parts.{part_parity_at, IsImage}
 use Rattle.zone_spec.specs.Told.{Call, Append, Erase, Dump, last_items}
 use Rattle.zone_spec.specs.Stores.{Store, put, after_stores, byte_stores}
-use Rattle.zone_spec.specs.Stages.{Stage, SigWord, StartWord, SizeWord, Run, ParityOf, stage_stores, stores_in_turn, blocks_met}
-use Rattle.zone_spec.specs.Calls.{run_stages, append_stages, erase_stages, call_stages, call_stores, image_after, CanBegin}
+use Rattle.zone_spec.specs.Stages.{Stage, SigWord, StartWord, SizeWord, Run, ParityOf, stage_stores, stores_in_turn}
+use Rattle.zone_spec.specs.Stages.{blocks_met}
+use Rattle.zone_spec.specs.Calls.{run_stages, append_stages, erase_stages, call_stages, call_stores, image_after}
+use Rattle.zone_spec.specs.Calls.{CanBegin}
 use Rattle.ring_laws.proofs.Images.{length-after_stores}
 use Rattle.ring_laws.proofs.PartsLaw.{slice_range-bytes, put-bytes, part_short}
 use Rattle.ring_laws.proofs.EveryParity.{word-bytes, part-bytes}

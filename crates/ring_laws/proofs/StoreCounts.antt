@@ -7,7 +7,8 @@ use Rattle.zone_spec.specs.declared.Zone.{Zone}
 use Rattle.zone_spec.specs.Zones.{IsValidZone}
 use Rattle.zone_spec.specs.Parts.{AreBytes, part_bytes, part_at, part_len, part_parity_at}
 use Rattle.zone_spec.specs.Stores.{after_stores, byte_stores}
-use Rattle.zone_spec.specs.Stages.{Stage, SigWord, StartWord, SizeWord, Run, ParityOf, stage_stores, stores_in_turn, stage_count}
+use Rattle.zone_spec.specs.Stages.{Stage, SigWord, StartWord, SizeWord, Run, ParityOf, stage_stores, stores_in_turn}
+use Rattle.zone_spec.specs.Stages.{stage_count}
 use Rattle.ring_laws.proofs.PartsLaw.{slice_range-bytes, part_short}
 use Rattle.ring_laws.proofs.PartWords.{has_parity}
 use Rattle.ring_laws.proofs.StoreBytes.{HasBytes, after-bytes, stage_stores-all}

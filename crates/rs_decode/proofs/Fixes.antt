@@ -1,6 +1,7 @@
 -- The list of fixes that Chien's search and Forney's formula make is that of the damage. For `fill` and `candidate`.
 use Rattle.std.proofs.lemmas.Bool.{cases_eq}
-use Rattle.std.proofs.Common.{◌≡◌, ◌≢◌, ℕ, suc, ◌-◌, ◌≤◌, ◌<◌, eqb, refl, sym, ap, ap₂, ◌∙◌, subst, arith, List, [], ◌∷◌, ◌++◌, length, take, ◌⊎◌, inl, inr}
+use Rattle.std.proofs.Common.{◌≡◌, ◌≢◌, ℕ, suc, ◌-◌, ◌≤◌, ◌<◌, eqb, refl, sym, ap, ap₂, ◌∙◌, subst, arith, List, []}
+use Rattle.std.proofs.Common.{◌∷◌, ◌++◌, length, take, ◌⊎◌, inl, inr}
 use Rattle.code_spec.specs.Field.{gf_mul}
 use Rattle.code_laws.proofs.Ring.{mul_comm}
 use Rattle.code_laws.proofs.Symbols.{Symbols}
@@ -12,7 +13,8 @@ use Rattle.rs_decode.specs.declared.Fix.{Fix}
 use Rattle.decoder_laws.proofs.Forney.{found_mask, gap_ratio_below, gap_ratio_some}
 use Rattle.std.proofs.lemmas.Bool.{cond-true, cond-false, eq-eqb, ne_eqb}
 use Rattle.decoder_laws.proofs.Powers.{cancel_equal}
-use Rattle.decoder_laws.proofs.Chien.{at_here, at_below, powers_skip, powers_keep, powers_below-255, powers_of-below, found_powers}
+use Rattle.decoder_laws.proofs.Chien.{at_here, at_below, powers_skip, powers_keep, powers_below-255, powers_of-below}
+use Rattle.decoder_laws.proofs.Chien.{found_powers}
 
 -- ---- the list of fixes
 pub are_fixes-push : (n c : ℕ) (r all ps : List ℕ) (fs : List Fix) (p : ℕ) (f : Fix) → AreFixes n c r all ps fs

@@ -1,5 +1,6 @@
 -- Euclid's algorithm keeps its two rows, and at its end one of them is the solution. For `euclid` and `reduce`.
-use Rattle.std.proofs.Common.{◌≡◌, ◌≢◌, ℕ, suc, ◌+◌, ◌-◌, ◌≤◌, ◌<◌, sym, ap, ap₂, ◌∙◌, subst, arith, List, length, get_or, drop, ◌⊎◌, inl, inr, length-drop, get_or-drop, add-zero}
+use Rattle.std.proofs.Common.{◌≡◌, ◌≢◌, ℕ, suc, ◌+◌, ◌-◌, ◌≤◌, ◌<◌, sym, ap, ap₂, ◌∙◌, subst, arith, List, length}
+use Rattle.std.proofs.Common.{get_or, drop, ◌⊎◌, inl, inr, length-drop, get_or-drop, add-zero}
 use Rattle.std.proofs.lemmas.Bool.{cases_lt}
 use Rattle.code_spec.specs.Field.{gf_add, gf_mul}
 use Rattle.code_laws.proofs.Ring.{add_self, zero_add, mul_one, mul_zero, mul_comm, mul_assoc}

@@ -4,7 +4,8 @@
 //! The steps with buffers of their own are not inlined, so that they take turns on the stack.
 #![tactic(auto)]
 
-ghost use Rattle.std.specs.Prelude.{◌≡◌, ◌≢◌, ◌+◌, ◌-◌, ◌/◌, ◌≤◌, ◌<◌, ◌↔◌, ℕ, ◌++◌, length, slice_index, slice_set, take, drop, reverse, List, true, false, IsTrue, None, unwrap_or};
+ghost use Rattle.std.specs.Prelude.{◌≡◌, ◌≢◌, ◌+◌, ◌-◌, ◌/◌, ◌≤◌, ◌<◌, ◌↔◌, ℕ, ◌++◌, length, slice_index, slice_set};
+ghost use Rattle.std.specs.Prelude.{take, drop, reverse, List, true, false, IsTrue, None, unwrap_or};
 ghost use Rattle.code_spec.specs.Field.{gf_add, gf_mul, gf_pow};
 ghost use Rattle.code_spec.specs.Code.{IsCodeword, value_of, distance, nearest};
 ghost use Rattle.decoder_laws.specs.Polynomials.{poly, LeadingZeros};

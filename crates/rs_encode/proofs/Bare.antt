@@ -1,5 +1,6 @@
 -- The rest of a message as a list of symbols
-use Rattle.std.proofs.Common.{◌≡◌, subst, length-drop, ℕ, ◌+◌, ◌<◌, List, ◌++◌, ◌∷◌, [], length, get_or, sym, ◌∙◌, arith, drop, take, replicate}
+use Rattle.std.proofs.Common.{◌≡◌, subst, length-drop, ℕ, ◌+◌, ◌<◌, List, ◌++◌, ◌∷◌, [], length, get_or, sym, ◌∙◌}
+use Rattle.std.proofs.Common.{arith, drop, take, replicate}
 use Rattle.std.proofs.lemmas.List.{take_more}
 use Rattle.list_laws.proofs.Elements.{get_or-replicate_default}
 use Rattle.code_spec.specs.Field.{gf_add, gf_mul}

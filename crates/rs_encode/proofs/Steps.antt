@@ -1,5 +1,7 @@
 -- The rest of a message, from one symbol to the next
-use Rattle.std.proofs.Common.{◌≡◌, Bool, true≢false, false, eqb, ◌*◌, ◌/◌, ◌%◌, ◌^◌, bit_xor, subst, get_or-drop, length-drop, ℕ, zero, suc, ◌+◌, ◌-◌, ◌<◌, ◌≤◌, List, ◌++◌, ◌∷◌, [], length, get_or, refl, sym, ap, ap₂, ◌∙◌, arith, ◌⊎◌, inl, inr, drop, take, replicate, add-one}
+use Rattle.std.proofs.Common.{◌≡◌, Bool, true≢false, false, eqb, ◌*◌, ◌/◌, ◌%◌, ◌^◌, bit_xor, subst, get_or-drop}
+use Rattle.std.proofs.Common.{length-drop, ℕ, zero, suc, ◌+◌, ◌-◌, ◌<◌, ◌≤◌, List, ◌++◌, ◌∷◌, [], length, get_or, refl}
+use Rattle.std.proofs.Common.{sym, ap, ap₂, ◌∙◌, arith, ◌⊎◌, inl, inr, drop, take, replicate, add-one}
 use Rattle.std.proofs.lemmas.List.{get_or_past, length-replicate, take_more}
 use Rattle.std.proofs.lemmas.Grind.{same_number_lists}
 use Rattle.std.proofs.lemmas.Bool.{cases_lt}

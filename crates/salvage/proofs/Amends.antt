@@ -1,8 +1,10 @@
 -- The known bytes put in one by one
-use Rattle.std.proofs.Common.{Bool, true, false, ◌≡◌, ℕ, zero, suc, ◌+◌, ◌<◌, ◌≤◌, ◌==◌, if◌then◌else◌, List, [], ◌∷◌, length, drop, get_or, refl, sym, ap, ◌∙◌, subst, arith, Option, Some, None, unwrap_or, ext_get_or, set, ◌≢◌, get_or-set_other, get_or-set_same, below_more}
+use Rattle.std.proofs.Common.{Bool, true, false, ◌≡◌, ℕ, zero, suc, ◌+◌, ◌<◌, ◌≤◌, ◌==◌, if◌then◌else◌, List, [], ◌∷◌}
+use Rattle.std.proofs.Common.{length, drop, get_or, refl, sym, ap, ◌∙◌, subst, arith, Option, Some, None, unwrap_or}
+use Rattle.std.proofs.Common.{ext_get_or, set, ◌≢◌, get_or-set_other, get_or-set_same, below_more}
 use Rattle.code_spec.specs.Code.{distance}
 use Rattle.salvage_laws.specs.Known.{put_in}
-use Rattle.salvage_laws.proofs.Amended.{length-put_in}
+use Rattle.salvage_laws.proofs.KnownBytes.{length-put_in}
 
 -- the first i of w are put in, and count of them differed
 pub record Amending (ks : List (Option ℕ)) (w out : List ℕ) (i count : ℕ) : Type 0 where

@@ -2,10 +2,10 @@
 -- cite them.
 pub mod Amends
 pub mod Rings
-pub mod Probed
+pub mod HeaderSums
 pub mod Ranges
-pub mod Gathered
-pub mod Listing
-pub mod Asked
-pub mod Sieving
+pub mod ZoneShapes
+pub mod ScanRest
+pub mod PlaceReading
+pub mod BlockFactors
 pub mod Rows

@@ -1,5 +1,7 @@
 -- Rows of multiples of a place's counts. For `rows_of`, `row_for` and `sums_of`.
-use Rattle.std.proofs.Common.{◌≡◌, ℕ, ◌+◌, ◌-◌, drop, length-drop, ◌*◌, ◌^◌, ◌/◌, ◌%◌, ◌<◌, ◌≤◌, List, length, take, get_or, bit_xor, sym, ap, ◌∙◌, subst, arith, if◌then◌else◌, Bool, get_or-take, length-take}
+use Rattle.std.proofs.Common.{◌≡◌, ℕ, ◌+◌, ◌-◌, drop, length-drop, ◌*◌, ◌^◌, ◌/◌, ◌%◌, ◌<◌, ◌≤◌, List, length, take}
+use Rattle.std.proofs.Common.{get_or, bit_xor, sym, ap, ◌∙◌, subst, arith, if◌then◌else◌, Bool, get_or-take}
+use Rattle.std.proofs.Common.{length-take}
 use Rattle.std.proofs.lemmas.Bool.{lt-ltb, le-ltb}
 use Rattle.code_spec.specs.Field.{gf_mul}
 use Rattle.code_laws.proofs.Ring.{mul_comm}

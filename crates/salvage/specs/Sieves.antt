@@ -1,5 +1,6 @@
 -- What a sieve of headers' words is made of
-use Rattle.std.specs.Prelude.{◌≡◌, ◌≢◌, ℕ, suc, ◌+◌, ◌*◌, ◌^◌, ◌%◌, if◌then◌else◌, nat_lt, ◌-◌, ◌≤◌, ◌<◌, ◌⊎◌, List, [], ◌∷◌, length, slice_index, slice_index_or, Option, None, All, MatchOption}
+use Rattle.std.specs.Prelude.{◌≡◌, ◌≢◌, ℕ, suc, ◌+◌, ◌*◌, ◌^◌, ◌%◌, if◌then◌else◌, nat_lt, ◌-◌, ◌≤◌, ◌<◌, ◌⊎◌, List, []}
+use Rattle.std.specs.Prelude.{◌∷◌, length, slice_index, slice_index_or, Option, None, All, MatchOption}
 use Rattle.code_spec.specs.Field.{gf_add, gf_mul, gf_pow}
 use Rattle.code_laws.proofs.Symbols.{HasRoots}
 use Rattle.zone_spec.specs.declared.Zone.{Zone}

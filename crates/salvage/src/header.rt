@@ -1,5 +1,6 @@
 // Whether a header's word is a ring: the known bytes are put in first, and most words are decided without a decoder.
-ghost use Rattle.std.specs.Prelude.{◌≡◌, ◌↔◌, ◌+◌, ◌-◌, ◌/◌, ◌<◌, ◌≤◌, ℕ, ◌++◌, length, slice_index, unwrap_or, IsTrue, Some, None, if◌then◌else◌, ◌==◌};
+ghost use Rattle.std.specs.Prelude.{◌≡◌, ◌↔◌, ◌+◌, ◌-◌, ◌/◌, ◌<◌, ◌≤◌, ℕ, ◌++◌, length, slice_index, unwrap_or, IsTrue};
+ghost use Rattle.std.specs.Prelude.{Some, None, if◌then◌else◌, ◌==◌};
 ghost use Rattle.std.specs.Int.{from_le_bytes};
 ghost use Rattle.std.proofs.Common.{w32};
 ghost use Rattle.code_spec.specs.Code.{distance, nearest};

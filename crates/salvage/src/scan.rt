@@ -1,5 +1,6 @@
 // The scan of a dump.
-ghost use Rattle.std.specs.Prelude.{◌≡◌, ◌+◌, ◌*◌, ◌/◌, ◌≤◌, ◌<◌, ◌^◌, ◌∷◌, [], length, drop, filter_map, slice_get, Some, None, Ok, IfOk, is_some, ◌==◌, ◌&&◌, ◌%◌, MatchOption, MatchResult, IfSome};
+ghost use Rattle.std.specs.Prelude.{◌≡◌, ◌+◌, ◌*◌, ◌/◌, ◌≤◌, ◌<◌, ◌^◌, ◌∷◌, [], length, drop, filter_map, slice_get};
+ghost use Rattle.std.specs.Prelude.{Some, None, Ok, IfOk, is_some, ◌==◌, ◌&&◌, ◌%◌, MatchOption, MatchResult, IfSome};
 ghost use Rattle.ramoops_layout.specs.Laid.{zones_of};
 ghost use Rattle.zone_spec.specs.Zones.{IsValidZone};
 ghost use Rattle.zone_spec.specs.Reading.{zone_reading};

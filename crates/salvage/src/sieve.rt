@@ -5,12 +5,15 @@
 // symbols of a codeword add up to 0. So the weighted sum of a word tells of the errors in the block alone. The sums with
 // one, two and more powers of the place's locator as a further weight follow a recurrence that has a term for each
 // error. So 2e - 1 sums tell whether there are fewer than e errors.
-ghost use Rattle.std.specs.Prelude.{◌≡◌, ◌+◌, ◌*◌, ◌-◌, ◌≤◌, ◌<◌, ◌↔◌, ℕ, slice_index, ◌^◌, bit_xor, ◌++◌, length, replicate, drop, slice_index_or, List, true, false, IsTrue, Option, None, All, IfSome, IfOk};
+ghost use Rattle.std.specs.Prelude.{◌≡◌, ◌+◌, ◌*◌, ◌-◌, ◌≤◌, ◌<◌, ◌↔◌, ℕ, slice_index, ◌^◌, bit_xor, ◌++◌, length};
+ghost use Rattle.std.specs.Prelude.{replicate, drop, slice_index_or, List, true, false, IsTrue, Option, None, All};
+ghost use Rattle.std.specs.Prelude.{IfSome, IfOk};
 ghost use Rattle.code_spec.specs.Field.{gf_add, gf_mul, gf_pow};
 ghost use Rattle.code_spec.specs.Code.{distance};
 ghost use Rattle.rs_encode.specs.Lanes.{IsMultiple, digit};
 ghost use Rattle.salvage_laws.specs.Known.{put_in};
-ghost use Rattle.salvage.specs.Sieves.{AreFactors, AreRows, factor_of, IsBlock, IsKnownWord, IsOutside, IsWeight, dot, none, product, sum_at};
+ghost use Rattle.salvage.specs.Sieves.{AreFactors, AreRows, factor_of, IsBlock, IsKnownWord, IsOutside, IsWeight, dot};
+ghost use Rattle.salvage.specs.Sieves.{none, product, sum_at};
 
 use crate::header::amend;
 use arrayvec::ArrayVec;

@@ -1,5 +1,6 @@
 -- The words of a ring have the known bytes
-use Rattle.std.proofs.Common.{◌≡◌, ℕ, zero, suc, ◌+◌, ◌*◌, ◌/◌, ◌%◌, ◌<◌, ◌≤◌, if◌then◌else◌, nat_lt, List, [], ◌∷◌, length, get_or, refl, sym, ap, ◌∙◌, arith, Option, Some, None, true, false, Bool, w32}
+use Rattle.std.proofs.Common.{◌≡◌, ℕ, zero, suc, ◌+◌, ◌*◌, ◌/◌, ◌%◌, ◌<◌, ◌≤◌, if◌then◌else◌, nat_lt, List, [], ◌∷◌}
+use Rattle.std.proofs.Common.{length, get_or, refl, sym, ap, ◌∙◌, arith, Option, Some, None, true, false, Bool, w32}
 use Rattle.std.specs.List.{AllByRecursion}
 use Rattle.std.specs.Int.{to_le_bytes, from_le_bytes}
 use Rattle.std.proofs.lemmas.Nat.{le_bytes_4}
@@ -9,7 +10,7 @@ use Rattle.zone_spec.specs.Zones.{IsValidZone}
 use Rattle.zone_spec.specs.Parts.{words_in}
 use Rattle.salvage_spec.specs.Rings.{IsRingOf}
 use Rattle.salvage_laws.specs.Known.{put_in, known, known_of}
-use Rattle.salvage_laws.proofs.Amended.{AreKnown}
+use Rattle.salvage_laws.proofs.KnownBytes.{AreKnown}
 
 -- what a list agrees with, byte for byte
 abbrev Agrees : List (Option ℕ) → List ℕ → Type 0

@@ -1,5 +1,7 @@
 -- What tells whether a header's word is a ring
-use Rattle.std.proofs.Common.{◌≡◌, ℕ, zero, suc, ◌+◌, ◌-◌, ◌/◌, ◌≤◌, ◌&&◌, ◌==◌, if◌then◌else◌, nat_le, nat_lt, true, false, Bool, List, [], ◌∷◌, length, take, drop, refl, sym, ap, ◌∙◌, subst, arith, Option, Some, None, IsTrue, eqb-true, eq-eqb, leb-true, le-leb}
+use Rattle.std.proofs.Common.{◌≡◌, ℕ, zero, suc, ◌+◌, ◌-◌, ◌/◌, ◌≤◌, ◌&&◌, ◌==◌, if◌then◌else◌, nat_le, nat_lt, true}
+use Rattle.std.proofs.Common.{false, Bool, List, [], ◌∷◌, length, take, drop, refl, sym, ap, ◌∙◌, subst, arith, Option}
+use Rattle.std.proofs.Common.{Some, None, IsTrue, eqb-true, eq-eqb, leb-true, le-leb}
 use Rattle.std.proofs.lemmas.List.{take-append-drop}
 use Rattle.zone_spec.specs.declared.Zone.{Zone}
 use Rattle.zone_spec.specs.declared.Words.{Words}
@@ -12,7 +14,7 @@ use Rattle.salvage_spec.specs.Rings.{IsRingOf, IsRingBy, is_ring_of, found_by, r
 use Rattle.salvage_spec.specs.declared.FoundRing.{FoundRing}
 use Rattle.salvage_laws.specs.Known.{known, amended, amends, IsRingByKnown}
 use Rattle.salvage_laws.specs.Laws.{RingByKnown, CorrectedByKnown, ManyAmends, AllAmends, IsRingAsAmended, RingInIs}
-use Rattle.salvage_laws.proofs.Amended.{distance-put_in, word-put_in}
+use Rattle.salvage_laws.proofs.KnownBytes.{distance-put_in, word-put_in}
 use Rattle.salvage_laws.proofs.Bytes.{has_known, are_known}
 
 -- a codeword near a word of so many bytes, within half the parity

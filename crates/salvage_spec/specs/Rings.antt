@@ -1,6 +1,8 @@
 -- The rings of a layout's shapes at any place of a memory dump (the project's own: the kernel looks at its own zones
 -- alone)
-use Rattle.std.specs.Prelude.{◌≡◌, ℕ, ◌+◌, ◌*◌, ◌/◌, ◌%◌, ◌<◌, Bool, ◌&&◌, not, if◌then◌else◌, nat_lt, nat_le, ◌==◌, List, [], ◌∷◌, length, filter, flat_map, filter_map, slice_get, slice_range, Option, Some, None, is_some, option_and_then, Result, Ok, Err}
+use Rattle.std.specs.Prelude.{◌≡◌, ℕ, ◌+◌, ◌*◌, ◌/◌, ◌%◌, ◌<◌, Bool, ◌&&◌, not, if◌then◌else◌, nat_lt, nat_le, ◌==◌}
+use Rattle.std.specs.Prelude.{List, [], ◌∷◌, length, filter, flat_map, filter_map, slice_get, slice_range, Option, Some}
+use Rattle.std.specs.Prelude.{None, is_some, option_and_then, Result, Ok, Err}
 use Rattle.std.specs.List.{range_with_len}
 use Rattle.zone_spec.specs.declared.Zone.{Zone}
 use Rattle.zone_spec.specs.declared.ZoneName.{ZoneName}

@@ -1,5 +1,6 @@
 -- Each field that is printed is read back
-use Rattle.std.proofs.Common.{◌≡◌, ℕ, zero, suc, ◌+◌, ◌*◌, ◌<◌, ◌≤◌, ◌^◌, ◌==◌, Bool, true, false, List, [], ◌∷◌, length, Some, None, refl, sym, ap, ◌∙◌, arith, inl, inr}
+use Rattle.std.proofs.Common.{◌≡◌, ℕ, zero, suc, ◌+◌, ◌*◌, ◌<◌, ◌≤◌, ◌^◌, ◌==◌, Bool, true, false, List, [], ◌∷◌}
+use Rattle.std.proofs.Common.{length, Some, None, refl, sym, ap, ◌∙◌, arith, inl, inr}
 use Rattle.std.specs.Prelude.{decimal, codes, bytes_eq, if◌then◌else◌, ◌≢◌}
 use Rattle.std.proofs.lemmas.Bool.{cases_lt, cases_Bool}
 use Rattle.std.proofs.lemmas.List.{get_or_past}
@@ -10,7 +11,8 @@ use Rattle.hex.proofs.HexLemmas.{decode_of-encode_lower, length-encode_with}
 use Rattle.zone_spec.specs.declared.ZoneName.{ZoneName}
 use Rattle.zone_spec.specs.declared.Kind.{Kind}
 use Rattle.zone_spec.specs.declared.Kind.TheVariants.{Dump, Console, Ftrace, Pmsg}
-use Rattle.grammar_spec.specs.Fields.{Text, ◌>>=◌, number_below, mask, zone_at, ring, zone, payload, message, is_message, some_bytes, decoded, flag, reason, name, is_name}
+use Rattle.grammar_spec.specs.Fields.{Text, ◌>>=◌, number_below, mask, zone_at, ring, zone, payload, message}
+use Rattle.grammar_spec.specs.Fields.{is_message, some_bytes, decoded, flag, reason, name, is_name}
 use Rattle.grammar_spec.specs.Printed.{IsZoneOf, zone_text_of, payload_text, flag_text, reason_text, IsPayload}
 use Rattle.script.proofs.Numbers.{number_below-decimal}
 use Rattle.script.proofs.Solid.{IsSolid, solid_literal, solid_append, solid_decimal, solid_hex}

@@ -4,10 +4,10 @@ pub mod Back
 pub mod Counts
 pub mod Cuts
 pub mod HexDigits
-pub mod Inside
-pub mod Joined
+pub mod FieldTable
+pub mod LineFields
 pub mod Loop
 pub mod Numbers
-pub mod Round
+pub mod PrintedRead
 pub mod Solid
 pub mod Taken

@@ -1,7 +1,8 @@
 // The fields of a line.
 ghost use Rattle.std.specs.Prelude.{◌≡◌, ◌&&◌, nat_le, ◌<◌, ◌≤◌, ◌^◌, IfSome};
 ghost use Rattle.std.specs.List.{list_all};
-ghost use Rattle.grammar_spec.specs.Fields.{number_below, mask, zone_at, ring, zone, payload, is_message, message, some_bytes, flag, reason, is_name, name};
+ghost use Rattle.grammar_spec.specs.Fields.{number_below, mask, zone_at, ring, zone, payload, is_message, message};
+ghost use Rattle.grammar_spec.specs.Fields.{some_bytes, flag, reason, is_name, name};
 ghost use Rattle.script.specs.Reading.{Gives, IsParsed};
 
 use crate::digits;

@@ -1,7 +1,8 @@
 // Lines, printed.
 ghost use Rattle.std.specs.Prelude.{◌≡◌, ◌++◌, ◌∷◌, [], decimal, IfOk, OnOk, Ok};
 ghost use Rattle.grammar_spec.specs.Lines.{script_of};
-ghost use Rattle.grammar_spec.specs.Printed.{AllHaveFields, PrintedIsRead, zone_text, payload_text, flag_text, reason_text, line_text, script_text};
+ghost use Rattle.grammar_spec.specs.Printed.{AllHaveFields, PrintedIsRead, zone_text, payload_text, flag_text};
+ghost use Rattle.grammar_spec.specs.Printed.{reason_text, line_text, script_text};
 ghost use Rattle.script.specs.Writing.{word_text, tail_text};
 
 use crate::{Line, Lines};

@@ -1,8 +1,10 @@
 // The lines of the table, by their fields.
 ghost use Rattle.std.specs.Prelude.{◌≡◌, ◌<◌, ◌==◌, ◌∷◌, [], length, nat_le, MatchOption, IfSome, IfNone};
 ghost use Rattle.std.specs.List.{slice_split, list_all};
-ghost use Rattle.grammar_spec.specs.Groups.{one, two, three, four, five, ring_hex, time_flag_hex, one_zone, one_number, one_name, one_message, one_some_bytes};
-ghost use Rattle.grammar_spec.specs.Rows.{step_line, flip_line, kdump_line, crash_line, store_line, begin_row, begin_line, plain_row, row, lone_word};
+ghost use Rattle.grammar_spec.specs.Groups.{one, two, three, four, five, ring_hex, time_flag_hex, one_zone, one_number};
+ghost use Rattle.grammar_spec.specs.Groups.{one_name, one_message, one_some_bytes};
+ghost use Rattle.grammar_spec.specs.Rows.{step_line, flip_line, kdump_line, crash_line, store_line, begin_row};
+ghost use Rattle.grammar_spec.specs.Rows.{begin_line, plain_row, row, lone_word};
 ghost use Rattle.grammar_spec.specs.Lines.{fields_of, is_blank, line_of};
 ghost use Rattle.script.specs.Reading.{Gives};
 ghost use Rattle.script.specs.declared.rows.LineFault.TheVariants.{Memory};

@@ -1,5 +1,6 @@
 -- What the lines of a script do and put on the block store
-use Rattle.std.specs.Prelude.{◌≡◌, ◌⊎◌, ⊤, ℕ, ◌+◌, ◌<◌, ◌==◌, if◌then◌else◌, List, [], ◌∷◌, ◌++◌, length, take, drop, flat_map, slice_get, fold, codes, decimal, bytes_eq, Option, Some, None, Result, Ok, Err}
+use Rattle.std.specs.Prelude.{◌≡◌, ◌⊎◌, ⊤, ℕ, ◌+◌, ◌<◌, ◌==◌, if◌then◌else◌, List, [], ◌∷◌, ◌++◌, length, take, drop}
+use Rattle.std.specs.Prelude.{flat_map, slice_get, fold, codes, decimal, bytes_eq, Option, Some, None, Result, Ok, Err}
 use Rattle.std.specs.List.{find}
 use Rattle.zone_spec.specs.declared.Kind.{Kind}
 use Rattle.zone_spec.specs.declared.Kind.TheVariants.{Console as ConsoleZone, Pmsg as PmsgZone}
@@ -13,10 +14,14 @@ use Rattle.kmsg_spec.specs.Reasons.{reason_of}
 use Rattle.blk_spec.specs.Writes.{Write as StoreWrite, bytes_in, reaching}
 use Rattle.blk_spec.specs.Names.{name_text}
 use Rattle.blk_spec.specs.States.{BlkState, load_writes, append_of, dump_of, erase_of, names_of, content_of, time_of}
-use Rattle.blk_spec.specs.Session.{Session, Operation, Load, Append, AppendElsewhere, Dump as DumpNow, CutAfter as CutNow, ListAll, Extract as ExtractRecord, Erase as EraseRecord, Cause as SessionCause, IsOff as IsOffThere, NoZone as NoZoneThere, NoRecord as NoRecordThere, cause_of, session_after, begun}
+use Rattle.blk_spec.specs.Session.{Session, Operation, Load, Append, AppendElsewhere, Dump as DumpNow}
+use Rattle.blk_spec.specs.Session.{CutAfter as CutNow, ListAll, Extract as ExtractRecord, Erase as EraseRecord}
+use Rattle.blk_spec.specs.Session.{Cause as SessionCause, IsOff as IsOffThere, NoZone as NoZoneThere}
+use Rattle.blk_spec.specs.Session.{NoRecord as NoRecordThere, cause_of, session_after, begun}
 use Rattle.grammar_spec.specs.Fields.{Text}
 use Rattle.grammar_spec.specs.declared.line.Line.{Line}
-use Rattle.grammar_spec.specs.declared.line.Line.TheVariants.{Blank, Write, Boot, List as ListLine, Extract, Erase, KDump, CutAfter}
+use Rattle.grammar_spec.specs.declared.line.Line.TheVariants.{Blank, Write, Boot, List as ListLine, Extract, Erase}
+use Rattle.grammar_spec.specs.declared.line.Line.TheVariants.{KDump, CutAfter}
 use Rattle.script_spec.specs.Texts.{newline}
 use Rattle.script_spec.specs.declared.Cause.{Cause}
 use Rattle.script_spec.specs.declared.Cause.TheVariants.{IsOff, NoZone, NoRecord, NotHere}

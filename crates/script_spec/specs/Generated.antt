@@ -1,5 +1,7 @@
 -- The session of `make N`: calls, cuts and damage by the numbers that N begins
-use Rattle.std.specs.Prelude.{ℕ, ◌+◌, ◌-◌, ◌*◌, ◌/◌, ◌%◌, ◌^◌, min, Bool, true, false, not, if◌then◌else◌, nat_lt, ◌==◌, is_none, List, [], ◌∷◌, ◌++◌, length, replicate, filter, fold, map, slice_get, count_by, codes, decimal, Option, Some, None, Result, Ok, Err}
+use Rattle.std.specs.Prelude.{ℕ, ◌+◌, ◌-◌, ◌*◌, ◌/◌, ◌%◌, ◌^◌, min, Bool, true, false, not, if◌then◌else◌, nat_lt, ◌==◌}
+use Rattle.std.specs.Prelude.{is_none, List, [], ◌∷◌, ◌++◌, length, replicate, filter, fold, map, slice_get, count_by}
+use Rattle.std.specs.Prelude.{codes, decimal, Option, Some, None, Result, Ok, Err}
 use Rattle.std.specs.List.{range_with_len}
 use Rattle.zone_spec.specs.declared.Zone.{Zone}
 use Rattle.zone_spec.specs.declared.ZoneName.{ZoneName}

@@ -1,10 +1,12 @@
 -- What the lines of a script do and put
-use Rattle.std.specs.Prelude.{ℕ, ◌+◌, ◌-◌, ◌==◌, false, nat_lt, if◌then◌else◌, length, List, [], ◌∷◌, ◌++◌, filter, fold, bytes_eq, Option, Some, None, Result, Ok, Err}
+use Rattle.std.specs.Prelude.{ℕ, ◌+◌, ◌-◌, ◌==◌, false, nat_lt, if◌then◌else◌, length, List, [], ◌∷◌, ◌++◌, filter}
+use Rattle.std.specs.Prelude.{fold, bytes_eq, Option, Some, None, Result, Ok, Err}
 use Rattle.zone_spec.specs.declared.Zone.{Zone}
 use Rattle.zone_spec.specs.declared.Time.{Time}
 use Rattle.zone_spec.specs.declared.Kind.TheVariants.{Dump as DumpKind}
 use Rattle.zone_spec.specs.declared.Refusal.{Refusal}
-use Rattle.zone_spec.specs.declared.Refusal.TheVariants.{NoZone as NoZoneThere, Busy as BusyThere, Idle as IdleThere, OutOfImage as OutOfImageThere}
+use Rattle.zone_spec.specs.declared.Refusal.TheVariants.{NoZone as NoZoneThere, Busy as BusyThere, Idle as IdleThere}
+use Rattle.zone_spec.specs.declared.Refusal.TheVariants.{OutOfImage as OutOfImageThere}
 use Rattle.zone_spec.specs.TimeLines.{line_text}
 use Rattle.zone_spec.specs.Names.{name_text}
 use Rattle.zone_spec.specs.Records.{Saved, Listed, listed_of, first_listed}
@@ -16,15 +18,21 @@ use Rattle.machine_spec.specs.Report.{report}
 use Rattle.machine_spec.specs.Erasures.{saved_logs}
 use Rattle.machine_spec.specs.LiveZones.{Target, target}
 use Rattle.machine_spec.specs.LiveCalls.{Append as AppendAsk, Erase as EraseAsk, Dump as DumpAsk}
-use Rattle.machine_spec.specs.Operations.{Operation, operated, Begin as BeginCall, Make as MakeCall, Step as StepFlight, Finish as FinishFlight, Flip as FlipByte, Boot as BootStore, BootPart as BootInPart, EraseRecord, Stop as StopStore, Cause as SessionCause, WrongState, NoRecord as NoSuchRecord, Refused as RefusedThere}
+use Rattle.machine_spec.specs.Operations.{Operation, operated, Begin as BeginCall, Make as MakeCall, Step as StepFlight}
+use Rattle.machine_spec.specs.Operations.{Finish as FinishFlight, Flip as FlipByte, Boot as BootStore}
+use Rattle.machine_spec.specs.Operations.{BootPart as BootInPart, EraseRecord, Stop as StopStore, Cause as SessionCause}
+use Rattle.machine_spec.specs.Operations.{WrongState, NoRecord as NoSuchRecord, Refused as RefusedThere}
 use Rattle.kmsg_spec.specs.Bodies.{body, last_lines}
 use Rattle.kmsg_spec.specs.Reasons.{reason_of}
 use Rattle.grammar_spec.specs.Fields.{Text}
 use Rattle.grammar_spec.specs.declared.line.Line.{Line}
-use Rattle.grammar_spec.specs.declared.line.Line.TheVariants.{Blank, Write, Dump, BeginWrite, BeginErase, BeginDump, Step, Finish, Stop, Flip, Boot, BootPart, List as ListLine, Extract, Erase, KMsg, Crash}
+use Rattle.grammar_spec.specs.declared.line.Line.TheVariants.{Blank, Write, Dump, BeginWrite, BeginErase, BeginDump}
+use Rattle.grammar_spec.specs.declared.line.Line.TheVariants.{Step, Finish, Stop, Flip, Boot, BootPart}
+use Rattle.grammar_spec.specs.declared.line.Line.TheVariants.{List as ListLine, Extract, Erase, KMsg, Crash}
 use Rattle.script_spec.specs.Texts.{boot_text, part_text, listing, extract_text}
 use Rattle.script_spec.specs.declared.Cause.{Cause}
-use Rattle.script_spec.specs.declared.Cause.TheVariants.{IsOff, IsLive, NoZone, Busy, Idle, OutOfImage, NoRecord, NotHere, TooLong}
+use Rattle.script_spec.specs.declared.Cause.TheVariants.{IsOff, IsLive, NoZone, Busy, Idle, OutOfImage, NoRecord}
+use Rattle.script_spec.specs.declared.Cause.TheVariants.{NotHere, TooLong}
 
 -- what a line of the store that was done leaves and puts
 pub record StoreDone : Type 0 where

@@ -1,5 +1,6 @@
 -- What the lines of a script do in a shared zone, and the text at its end
-use Rattle.std.specs.Prelude.{ℕ, zero, suc, ◌+◌, ◌-◌, ◌==◌, ◌||◌, Bool, nat_lt, List, [], ◌++◌, length, fold, flat_map, slice_get, codes, decimal, Option, Some, None, Result, Ok, Err}
+use Rattle.std.specs.Prelude.{ℕ, zero, suc, ◌+◌, ◌-◌, ◌==◌, ◌||◌, Bool, nat_lt, List, [], ◌++◌, length, fold, flat_map}
+use Rattle.std.specs.Prelude.{slice_get, codes, decimal, Option, Some, None, Result, Ok, Err}
 use Rattle.zone_spec.specs.declared.Zone.{Zone}
 use Rattle.zone_spec.specs.declared.params.Params.{Params}
 use Rattle.zone_spec.specs.declared.ZoneName.{ZoneName}

@@ -3,8 +3,8 @@
 pub mod SeatLists
 pub mod Tickets
 pub mod Regions
-pub mod Standing
-pub mod Leaving
+pub mod RingView
+pub mod RingSteps
 pub mod Wholes
-pub mod Opened
+pub mod OpenAndClosed
 pub mod Shareable

@@ -15,7 +15,7 @@ use Rattle.machine_laws.proofs.Lists.{zone_within}
 use Rattle.shared_spec.specs.Machine.{CanShare}
 use Rattle.shared_spec.specs.Histories.{CanOpen}
 use Rattle.shared_ring.specs.Seats.{IsOpenRing}
-use Rattle.shared_ring.proofs.Opened.{zone_there}
+use Rattle.shared_ring.proofs.OpenAndClosed.{zone_there}
 
 pub shares : (z : Zone) (image : List ℕ) (w : Words) → IsValidZone z → z.at + z.size ≤ length image
     → w ≡ standing_words (zone_bytes z image) → z.parity ≡ 0 → w.sig ≡ z.sig → IsOpenRing w z.cap

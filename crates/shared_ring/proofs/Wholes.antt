@@ -1,5 +1,7 @@
 -- A reservation and a step keep a shared zone whole
-use Rattle.std.proofs.Common.{◌≡◌, ℕ, ◌+◌, ◌%◌, ◌^◌, ◌<◌, ◌≤◌, ◌==◌, min, Bool, true, false, cond, List, [], ◌∷◌, ◌++◌, length, take, drop, set, sym, ap, ◌∙◌, subst, arith, Some, w32, length-append, length-set, mod-lt}
+use Rattle.std.proofs.Common.{◌≡◌, ℕ, ◌+◌, ◌%◌, ◌^◌, ◌<◌, ◌≤◌, ◌==◌, min, Bool, true, false, cond, List, [], ◌∷◌, ◌++◌}
+use Rattle.std.proofs.Common.{length, take, drop, set, sym, ap, ◌∙◌, subst, arith, Some, w32, length-append, length-set}
+use Rattle.std.proofs.Common.{mod-lt}
 use Rattle.std.proofs.lemmas.List.{length-take, length-drop}
 use Rattle.std.specs.Prelude.{slice_get, slice_index}
 use Rattle.std.specs.Int.{to_le_bytes}
@@ -11,7 +13,7 @@ use Rattle.shared_laws.proofs.PlainZones.{put_start, put_size, byte_words}
 use Rattle.prz_region.specs.CutRegion.{span, stored}
 use Rattle.shared_ring.specs.declared.seats.Seat.{Seat}
 use Rattle.shared_ring.specs.Seats.{one_more}
-use Rattle.shared_ring.specs.Seen.{SharedSeen, bytes_of, words_of, IsWhole, seated, stepped, words_store, byte_store}
+use Rattle.shared_ring.specs.Seen.{SharedSeen, bytes_of, words_seen, IsWhole, seated, stepped, words_store, byte_store}
 use Rattle.prz_region.proofs.Cuts.{spans-length}
 use Rattle.shared_ring.proofs.Regions.{one_stored}
 use Rattle.shared_ring.proofs.SeatLists.{are_stepped, are_more}
@@ -19,15 +21,15 @@ use Rattle.shared_ring.proofs.SeatLists.{are_stepped, are_more}
 pub seated_whole : (v : SharedSeen) (payload : List ℕ) → IsWhole v → length v.seats < 64 → 0 < length payload
     → length payload ≤ v.zone.cap → IsWhole (seated v payload)
 seated_whole v payload w seat some room =
-    let start : ℕ = ((words_of v).start + length payload) % v.zone.cap in
-    let size : ℕ = min v.zone.cap ((words_of v).size + length payload) in
+    let start : ℕ = ((words_seen v).start + length payload) % v.zone.cap in
+    let size : ℕ = min v.zone.cap ((words_seen v).size + length payload) in
     let s : Store = words_store start size in
     let n : List ℕ = put (bytes_of v) s.place s.bytes in
     let below : start < v.zone.cap = mod-lt _ (omega (arith, w.start)) in
     let at : span (stored v.region v.place (s ∷ [])) v.place ≡ n = one_stored v.region v.place s w.there in
     let wide : 12 ≤ length (bytes_of v) = omega (arith, w.room, w.sized) in
     let cap : v.zone.cap < 2 ^ 32 = omega (arith, w.room, w.short) in
-    let new : Seat = record { ticket = v.reserved; place = (words_of v).start; stored = 0; payload = payload } in
+    let new : Seat = record { ticket = v.reserved; place = (words_seen v).start; stored = 0; payload = payload } in
     record {
       there = omega (arith, w.there, spans-length v.region v.place (s ∷ []));
       sized = ap length at
@@ -61,7 +63,7 @@ stepped_whole v i s w e =
     let byte : Store = byte_store p (slice_index s.payload s.stored) in
     let n : List ℕ = put (bytes_of v) byte.place byte.bytes in
     let at : span (stored v.region v.place (byte ∷ [])) v.place ≡ n = one_stored v.region v.place byte w.there in
-    let same : standing_words (span (stored v.region v.place (byte ∷ [])) v.place) ≡ words_of v =
+    let same : standing_words (span (stored v.region v.place (byte ∷ [])) v.place) ≡ words_seen v =
     ap standing_words at ∙ byte_words (bytes_of v) p (slice_index s.payload s.stored) in
     record {
       there = omega (arith, w.there, spans-length v.region v.place (byte ∷ []));

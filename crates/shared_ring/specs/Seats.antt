@@ -1,5 +1,6 @@
 -- The seats of open calls
-use Rattle.std.specs.Prelude.{◌≡◌, ℕ, ◌+◌, ◌-◌, ◌%◌, ◌<◌, ◌≤◌, Bool, if◌then◌else◌, ◌==◌, List, [], ◌∷◌, ◌++◌, length, take, drop, set, slice_get, Some}
+use Rattle.std.specs.Prelude.{◌≡◌, ℕ, ◌+◌, ◌-◌, ◌%◌, ◌<◌, ◌≤◌, Bool, if◌then◌else◌, ◌==◌, List, [], ◌∷◌, ◌++◌, length}
+use Rattle.std.specs.Prelude.{take, drop, set, slice_get, Some}
 use Rattle.zone_spec.specs.declared.Words.{Words}
 use Rattle.zone_spec.specs.Reading.{IsRing}
 use Rattle.zone_spec.specs.Ring.{IsOpen}

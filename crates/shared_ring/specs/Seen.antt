@@ -1,5 +1,6 @@
 -- What a contract sees of a zone that is shared, and the histories that leave it so
-use Rattle.std.specs.Prelude.{◌≡◌, ℕ, ◌+◌, ◌%◌, ◌^◌, ◌<◌, ◌≤◌, min, List, [], ◌∷◌, ◌++◌, length, map, take, drop, slice_get, slice_index, Option, Some, None, Result, Ok, Err}
+use Rattle.std.specs.Prelude.{◌≡◌, ℕ, ◌+◌, ◌%◌, ◌^◌, ◌<◌, ◌≤◌, min, List, [], ◌∷◌, ◌++◌, length, map, take, drop}
+use Rattle.std.specs.Prelude.{slice_get, slice_index, Option, Some, None, Result, Ok, Err}
 use Rattle.std.specs.List.{concat}
 use Rattle.std.specs.Int.{to_le_bytes}
 use Rattle.std.proofs.Common.{w32}
@@ -32,8 +33,8 @@ abbrev pub bytes_of : SharedSeen → List ℕ
 bytes_of v = span v.region v.place
 
 -- and its words
-abbrev pub words_of : SharedSeen → Words
-words_of v = standing_words (bytes_of v)
+abbrev pub words_seen : SharedSeen → Words
+words_seen v = standing_words (bytes_of v)
 
 -- the zone has its bytes, its words are a ring with start below cap, and at most 64 seats are taken
 pub record IsWhole (v : SharedSeen) : Type 0 where
@@ -41,8 +42,8 @@ pub record IsWhole (v : SharedSeen) : Type 0 where
   pub sized : length (bytes_of v) ≡ v.zone.size
   pub short : v.zone.size ≤ 2 ^ 24
   pub room : 12 + v.zone.cap ≤ v.zone.size
-  pub start : (words_of v).start < v.zone.cap
-  pub size : (words_of v).size ≤ v.zone.cap
+  pub start : (words_seen v).start < v.zone.cap
+  pub size : (words_seen v).size ≤ v.zone.cap
   pub few : length v.seats ≤ 64
   pub seats : AreSeats v.zone.cap v.seats
 
@@ -78,14 +79,14 @@ byte_store place b = record { place = 12 + place; bytes = b ∷ [] }
 -- after a reservation, which is one store
 abbrev pub seated : SharedSeen → List ℕ → SharedSeen
 seated v payload = record {
-  region = stored v.region v.place (words_store (((words_of v).start + length payload) % v.zone.cap)
-      (min v.zone.cap ((words_of v).size + length payload)) ∷ []);
+  region = stored v.region v.place (words_store (((words_seen v).start + length payload) % v.zone.cap)
+      (min v.zone.cap ((words_seen v).size + length payload)) ∷ []);
   place = v.place;
   zone = v.zone;
   reserved = v.reserved + 1;
   seats = v.seats ++ record {
     ticket = v.reserved;
-    place = (words_of v).start;
+    place = (words_seen v).start;
     stored = 0;
     payload = payload;
   } ∷ [];

@@ -1,5 +1,6 @@
 // The shared zone.
-ghost use Rattle.std.specs.Prelude.{◌≡◌, ◌<◌, ◌≤◌, ◌+◌, ◌^◌, ◌++◌, [], length, slice_get, IfOk, IfErr, MatchResult, OnOk, OnErr, IfNone, is_some, Some, None};
+ghost use Rattle.std.specs.Prelude.{◌≡◌, ◌<◌, ◌≤◌, ◌+◌, ◌^◌, ◌++◌, [], length, slice_get, IfOk, IfErr, MatchResult};
+ghost use Rattle.std.specs.Prelude.{OnOk, OnErr, IfNone, is_some, Some, None};
 ghost use Rattle.zone_spec.specs.Parts.{standing_words};
 ghost use Rattle.ramoops_layout.specs.Laid.{params_of, zones_of};
 ghost use Rattle.zone_spec.specs.Reading.{zone_reading};
@@ -10,7 +11,7 @@ ghost use Rattle.shared_spec.specs.Runs.{Reserve, StoreNext};
 ghost use Rattle.shared_spec.specs.Histories.{History, CanOpen, shared_zone, and_then, image_left};
 ghost use Rattle.shared_ring.specs.declared.seats.Seat.{Seat as ASeat};
 ghost use Rattle.shared_ring.specs.Seats.{next_of};
-ghost use Rattle.shared_ring.specs.Seen.{IsLeftBy, stores, words_of, seated, stepped, IsReserved, IsStepped};
+ghost use Rattle.shared_ring.specs.Seen.{IsLeftBy, stores, words_seen, seated, stepped, IsReserved, IsStepped};
 
 use crate::seats::{Seat, count_stored, find, held, next_byte, show};
 use arrayvec::ArrayVec;
@@ -96,7 +97,7 @@ impl Shared {
 
     /// The words as they stand.
     pub fn words(&self) -> Words
-        ensures value { result ≡ words_of self.now }
+        ensures value { result ≡ words_seen self.now }
         ensures left { (h : History) → IsLeftBy h self.now → result ≡ standing_words (shared_zone h).image }
     {
         Words::read(&self.spans.all()[self.place as usize])

@@ -2,5 +2,5 @@
 -- them.
 pub mod Steps
 pub mod Pieces
-pub mod Played
+pub mod ScriptLines
 pub mod Done

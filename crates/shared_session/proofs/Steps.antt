@@ -1,5 +1,6 @@
 -- Steps of a call, one by one, are what a line stores
-use Rattle.std.proofs.Common.{◌≡◌, ℕ, zero, suc, ◌+◌, ◌<◌, ◌≤◌, Bool, true, false, nat_lt, List, refl, sym, ap, ◌∙◌, subst, arith, add-one, Some, None, Option, Ok, Err, is_some}
+use Rattle.std.proofs.Common.{◌≡◌, ℕ, zero, suc, ◌+◌, ◌<◌, ◌≤◌, Bool, true, false, nat_lt, List, refl, sym, ap, ◌∙◌}
+use Rattle.std.proofs.Common.{subst, arith, add-one, Some, None, Option, Ok, Err, is_some}
 use Rattle.std.proofs.lemmas.Bool.{ltb-true, ltb-false}
 use Rattle.machine_spec.specs.Zones.{zone_bytes}
 use Rattle.shared_spec.specs.declared.NoCall.{NoCall}

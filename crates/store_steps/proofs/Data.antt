@@ -1,5 +1,6 @@
 -- Words and runs are the same on any image, and parity on images that differ in parity alone
-use Rattle.std.proofs.Common.{◌≡◌, ℕ, ◌+◌, ◌-◌, ◌<◌, ◌≤◌, List, [], length, take, drop, refl, sym, ap, ◌∙◌, arith, inl, inr}
+use Rattle.std.proofs.Common.{◌≡◌, ℕ, ◌+◌, ◌-◌, ◌<◌, ◌≤◌, List, [], length, take, drop, refl, sym, ap, ◌∙◌, arith, inl}
+use Rattle.std.proofs.Common.{inr}
 use Rattle.list_laws.proofs.Slices.{take-drop-take}
 use Rattle.zone_spec.specs.declared.Zone.{Zone}
 use Rattle.zone_spec.specs.Zones.{IsValidZone}
@@ -11,14 +12,15 @@ use Rattle.ring_laws.proofs.Images.{length-put, put-below, after_stores-byte_sto
 use Rattle.ring_laws.proofs.PartsLaw.{part_end, part_parity_at-number, slice_range-same}
 use Rattle.ring_laws.proofs.StoreBytes.{after-bytes}
 use Rattle.store_steps.specs.declared.place.Phase.{Phase}
-use Rattle.store_steps.specs.declared.place.Phase.TheVariants.{ZeroStart, ZeroSize, Size, Start, First, FirstParity, Second, SecondParity, Header as HeaderPhase, Finished}
+use Rattle.store_steps.specs.declared.place.Phase.TheVariants.{ZeroStart, ZeroSize, Size, Start, First, FirstParity}
+use Rattle.store_steps.specs.declared.place.Phase.TheVariants.{Second, SecondParity, Header as HeaderPhase, Finished}
 use Rattle.store_steps.specs.Calls.{AreCallBytes}
 use Rattle.store_steps.specs.Flying.{Flying}
 use Rattle.store_steps.specs.Phases.{phase_len}
 use Rattle.store_steps.specs.Machine.{stores_of, next_stores, IsParity, IsSameData}
-use Rattle.store_steps.proofs.Storing.{part-byte_stores}
-use Rattle.store_steps.proofs.Stepping.{next_length}
-use Rattle.store_steps.proofs.Handing.{no_bytes, next_stores-all}
+use Rattle.store_steps.proofs.PhaseStores.{part-byte_stores}
+use Rattle.store_steps.proofs.FlightSteps.{next_length}
+use Rattle.store_steps.proofs.HandOut.{no_bytes, next_stores-all}
 
 data_stores : (f : Flying) (a b : List ℕ) (p : Phase) → (IsParity p → ⊥) → stores_of f a p ≡ stores_of f b p
 data_stores f a b ZeroStart h = refl

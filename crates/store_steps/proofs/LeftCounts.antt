@@ -1,5 +1,6 @@
 -- How many stores are left of a call, counted
-use Rattle.std.proofs.Common.{◌≡◌, ℕ, ◌+◌, ◌-◌, ◌*◌, ◌/◌, ◌%◌, ◌<◌, ◌≤◌, List, ◌++◌, length, refl, ap, ◌∙◌, arith, length-take}
+use Rattle.std.proofs.Common.{◌≡◌, ℕ, ◌+◌, ◌-◌, ◌*◌, ◌/◌, ◌%◌, ◌<◌, ◌≤◌, List, ◌++◌, length, refl, ap, ◌∙◌, arith}
+use Rattle.std.proofs.Common.{length-take}
 use Rattle.std.proofs.lemmas.List.FromFn.{length-range_with_len}
 use Rattle.std.proofs.lemmas.List.Sums.{sum_by-cons, sum_by-append}
 use Rattle.std.specs.List.{range_with_len}
@@ -9,15 +10,16 @@ use Rattle.zone_spec.specs.Calls.{run_stages}
 use Rattle.store_steps.specs.declared.place.Leg.{Leg}
 use Rattle.store_steps.specs.declared.place.Leg.TheVariants.{Erasure, Payload, Line, Body}
 use Rattle.store_steps.specs.declared.place.Phase.{Phase}
-use Rattle.store_steps.specs.declared.place.Phase.TheVariants.{ZeroStart, ZeroSize, Size, Start, First, FirstParity, Second, SecondParity, Header as HeaderPhase, Finished}
+use Rattle.store_steps.specs.declared.place.Phase.TheVariants.{ZeroStart, ZeroSize, Size, Start, First, FirstParity}
+use Rattle.store_steps.specs.declared.place.Phase.TheVariants.{Second, SecondParity, Header as HeaderPhase, Finished}
 use Rattle.zone_spec.specs.Told.{Call}
 use Rattle.store_steps.specs.Calls.{leg_bytes, line_of}
 use Rattle.store_steps.specs.Flying.{Flying, payload, later}
 use Rattle.store_steps.specs.Phases.{IsWithin, first_run, second_run, first_len, second_len, first_end, second_end}
 use Rattle.store_steps.specs.Machine.{behind, closing, parities_between}
 use Rattle.store_steps.specs.LeftCounts.{parities, second_count, runs_count, behind_count}
-use Rattle.store_steps.proofs.Entering.{first_some, second_length}
-use Rattle.store_steps.proofs.Left.{counted}
+use Rattle.store_steps.proofs.PhaseEntry.{first_some, second_length}
+use Rattle.store_steps.proofs.StoresLeft.{counted}
 use Rattle.store_steps.proofs.Parts.{front_short}
 use Rattle.store_steps.proofs.Totals.{met, parities_count, run_count, last_short}
 

@@ -1,5 +1,6 @@
 -- A part's parity has the zone's number of bytes, and is the same while it is stored
-use Rattle.std.proofs.Common.{◌≡◌, ℕ, ◌+◌, ◌-◌, ◌<◌, ◌≤◌, List, length, take, drop, get_or, refl, ap, ◌∙◌, arith, get_or-take, get_or-drop, inl, inr, length-take}
+use Rattle.std.proofs.Common.{◌≡◌, ℕ, ◌+◌, ◌-◌, ◌<◌, ◌≤◌, List, length, take, drop, get_or, refl, ap, ◌∙◌, arith}
+use Rattle.std.proofs.Common.{get_or-take, get_or-drop, inl, inr, length-take}
 use Rattle.std.proofs.lemmas.Bool.{cases_lt}
 use Rattle.std.proofs.lemmas.List.{get_or_past}
 use Rattle.list_laws.proofs.Elements.{AllByRecursion_from_places}
@@ -10,7 +11,7 @@ use Rattle.zone_spec.specs.Stages.{ParityOf, stage_stores}
 use Rattle.ring_laws.proofs.Images.{length-put, put-below, after_stores-byte_stores}
 use Rattle.ring_laws.proofs.PartsLaw.{part_end, part_parity_at-number, slice_range-same}
 use Rattle.ring_laws.proofs.StoreCounts.{length-byte_stores}
-use Rattle.store_steps.proofs.Storing.{part-byte_stores}
+use Rattle.store_steps.proofs.PhaseStores.{part-byte_stores}
 use Rattle.code_spec.specs.Code.{parity_of}
 use Rattle.code_laws.proofs.Laws.{parity_made}
 

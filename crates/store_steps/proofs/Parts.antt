@@ -1,5 +1,6 @@
 -- The parts of a call behind one another
-use Rattle.std.proofs.Common.{◌≡◌, ℕ, ◌+◌, ◌-◌, ◌%◌, ◌<◌, ◌≤◌, min, Bool, true, false, cond, ◌==◌, List, [], ◌∷◌, ◌++◌, length, take, drop, refl, sym, ap, ◌∙◌, arith, append_assoc, append-nil, length-take}
+use Rattle.std.proofs.Common.{◌≡◌, ℕ, ◌+◌, ◌-◌, ◌%◌, ◌<◌, ◌≤◌, min, Bool, true, false, cond, ◌==◌, List, [], ◌∷◌, ◌++◌}
+use Rattle.std.proofs.Common.{length, take, drop, refl, sym, ap, ◌∙◌, arith, append_assoc, append-nil, length-take}
 use Rattle.std.proofs.lemmas.Bool.{ne_eqb}
 use Rattle.zone_spec.specs.declared.Zone.{Zone}
 use Rattle.std.proofs.lemmas.List.{nil_from_length}
@@ -15,7 +16,7 @@ use Rattle.store_steps.specs.Calls.{line_of, front_of, body_stages}
 use Rattle.store_steps.specs.Flying.{Flying, at_place, later}
 use Rattle.store_steps.specs.Phases.{IsDone, IsSound}
 use Rattle.store_steps.specs.Machine.{Enters}
-use Rattle.store_steps.proofs.Left.{AlwaysStored, enters_by}
+use Rattle.store_steps.proofs.StoresLeft.{AlwaysStored, enters_by}
 
 regroup : (a r1 r2 more : List Stage) (s h : Stage) → a ++ s ∷ [] ++ r1 ++ r2 ++ h ∷ [] ++ more
     ≡ a ++ (s ∷ (r1 ++ (r2 ++ h ∷ more)))

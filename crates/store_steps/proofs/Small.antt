@@ -1,5 +1,6 @@
 -- No call has as many stores as a word can count
-use Rattle.std.proofs.Common.{◌≡◌, ℕ, ◌+◌, ◌-◌, ◌*◌, ◌/◌, ◌<◌, ◌≤◌, ◌^◌, List, [], ◌∷◌, ◌++◌, length, take, drop, sym, ap, ◌∙◌, subst, arith, if◌then◌else◌, ◌==◌, length-take, length-drop, inl, inr}
+use Rattle.std.proofs.Common.{◌≡◌, ℕ, ◌+◌, ◌-◌, ◌*◌, ◌/◌, ◌<◌, ◌≤◌, ◌^◌, List, [], ◌∷◌, ◌++◌, length, take, drop, sym}
+use Rattle.std.proofs.Common.{ap, ◌∙◌, subst, arith, if◌then◌else◌, ◌==◌, length-take, length-drop, inl, inr}
 use Rattle.std.proofs.lemmas.Bool.Decides.{eqb_tells}
 use Rattle.std.proofs.lemmas.List.Sums.{sum_by-append}
 use Rattle.std.specs.List.{sum_by}
@@ -10,9 +11,10 @@ use Rattle.zone_spec.specs.Told.{Call, Append, Erase, Dump}
 use Rattle.zone_spec.specs.Stages.{stage_count}
 use Rattle.zone_spec.specs.Calls.{append_stages, call_stages, erase_stages}
 use Rattle.store_steps.specs.Calls.{last_of, line_of, front_of, body_stages, IsOpenFor}
-use Rattle.store_steps.proofs.Left.{counted}
-use Rattle.store_steps.proofs.Storing.{block_some, end_in}
-use Rattle.store_steps.proofs.Totals.{met, append_count, parity_most, last_short, stages_append, stages_dump, erase_count}
+use Rattle.store_steps.proofs.StoresLeft.{counted}
+use Rattle.store_steps.proofs.PhaseStores.{block_some, end_in}
+use Rattle.store_steps.proofs.Totals.{met, append_count, parity_most, last_short, stages_append, stages_dump}
+use Rattle.store_steps.proofs.Totals.{erase_count}
 
 met_most : (z : Zone) (place n : ℕ) → IsValidZone z → place + n ≤ z.cap → met z place n ≤ z.blocks
 met_most z place n valid h = omega (arith, end_in z (place + n) valid h)

@@ -1,5 +1,7 @@
 -- How many stores the stages of a call have
-use Rattle.std.proofs.Common.{◌≡◌, ℕ, suc, ◌+◌, ◌-◌, ◌*◌, ◌/◌, ◌%◌, ◌^◌, ◌<◌, ◌≤◌, min, if◌then◌else◌, ◌==◌, List, [], ◌∷◌, ◌++◌, length, take, drop, map, refl, sym, ap, ◌∙◌, arith, append-nil, inl, inr, length-take, length-drop, mul-le-mul_right}
+use Rattle.std.proofs.Common.{◌≡◌, ℕ, suc, ◌+◌, ◌-◌, ◌*◌, ◌/◌, ◌%◌, ◌^◌, ◌<◌, ◌≤◌, min, if◌then◌else◌, ◌==◌, List, []}
+use Rattle.std.proofs.Common.{◌∷◌, ◌++◌, length, take, drop, map, refl, sym, ap, ◌∙◌, arith, append-nil, inl, inr}
+use Rattle.std.proofs.Common.{length-take, length-drop, mul-le-mul_right}
 use Rattle.std.proofs.Math.Nat.{div-lt_iff_lt-mul}
 use Rattle.std.proofs.lemmas.List.FromFn.{length-range_with_len}
 use Rattle.std.proofs.lemmas.List.Sums.{sum_by-cons, sum_by-append}
@@ -12,7 +14,7 @@ use Rattle.zone_spec.specs.Told.{Call, Append, Erase, Dump}
 use Rattle.zone_spec.specs.Stages.{Stage, StartWord, SizeWord, Run, ParityOf, stage_count, blocks_met}
 use Rattle.zone_spec.specs.Calls.{append_stages, erase_stages, run_stages, call_stages}
 use Rattle.store_steps.specs.Calls.{last_of, line_of, front_of, body_stages}
-use Rattle.store_steps.proofs.Left.{counted}
+use Rattle.store_steps.proofs.StoresLeft.{counted}
 use Rattle.store_steps.proofs.Parts.{append_begins_ne, append_begins_full, sized}
 
 abbrev pub met : Zone → ℕ → ℕ → ℕ

@@ -1,5 +1,7 @@
 -- The blocks that the stages of a call touch
-use Rattle.std.proofs.Common.{◌≡◌, ℕ, zero, suc, ◌+◌, ◌-◌, ◌*◌, ◌/◌, ◌<◌, ◌≤◌, ◌⊎◌, min, true, false, List, [], ◌∷◌, ◌++◌, length, take, drop, map, refl, sym, ap, ap₂, ◌∙◌, arith, append-nil, inl, inr, length-take, length-drop, div-mul-le_self, filter, take_all, ◌==◌, ◌||◌}
+use Rattle.std.proofs.Common.{◌≡◌, ℕ, zero, suc, ◌+◌, ◌-◌, ◌*◌, ◌/◌, ◌<◌, ◌≤◌, ◌⊎◌, min, true, false, List, [], ◌∷◌}
+use Rattle.std.proofs.Common.{◌++◌, length, take, drop, map, refl, sym, ap, ap₂, ◌∙◌, arith, append-nil, inl, inr}
+use Rattle.std.proofs.Common.{length-take, length-drop, div-mul-le_self, filter, take_all, ◌==◌, ◌||◌}
 use Rattle.std.proofs.Math.Nat.{div-lt_iff_lt-mul, le-div_iff_mul-le}
 use Rattle.std.proofs.lemmas.Bool.{cases_lt}
 use Rattle.std.proofs.lemmas.Bool.Decides.{eqb_tells}
@@ -19,7 +21,7 @@ use Rattle.store_steps.specs.Calls.{last_of, line_of, front_of, body_stages}
 use Rattle.store_steps.specs.Counts.{runs_between}
 use Rattle.store_steps.proofs.Parts.{append_begins_ne, append_begins_full, sized}
 use Rattle.ring_laws.proofs.RunLaw.{cap_within}
-use Rattle.store_steps.proofs.Storing.{block_some}
+use Rattle.store_steps.proofs.PhaseStores.{block_some}
 use Rattle.store_steps.proofs.Totals.{last_short, stages_append, stages_dump}
 use Rattle.store_steps.proofs.Runs.{has, has_range, lacks_range, IsTouched, touched_runs_are}
 

@@ -1,7 +1,8 @@
 -- How many stores are left behind a phase, by the numbers of its part alone
 use Rattle.std.specs.Prelude.{ℕ, ◌+◌, ◌-◌, ◌*◌, ◌/◌}
 use Rattle.store_steps.specs.declared.place.Phase.{Phase}
-use Rattle.store_steps.specs.declared.place.Phase.TheVariants.{ZeroStart, ZeroSize, Size, Start, First, FirstParity, Second, SecondParity, Header as HeaderPhase, Finished}
+use Rattle.store_steps.specs.declared.place.Phase.TheVariants.{ZeroStart, ZeroSize, Size, Start, First, FirstParity}
+use Rattle.store_steps.specs.declared.place.Phase.TheVariants.{Second, SecondParity, Header as HeaderPhase, Finished}
 use Rattle.store_steps.specs.Flying.{Flying}
 use Rattle.store_steps.specs.Phases.{first_len, second_len, first_end, second_end}
 

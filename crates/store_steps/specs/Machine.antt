@@ -1,5 +1,6 @@
 -- The stores that a flight has still to make, and what it stands for
-use Rattle.std.specs.Prelude.{◌≡◌, ℕ, ◌+◌, ◌-◌, ◌/◌, ◌%◌, ◌^◌, ◌<◌, min, ◌⊎◌, List, [], ◌∷◌, ◌++◌, length, take, drop, map, sum_by}
+use Rattle.std.specs.Prelude.{◌≡◌, ℕ, ◌+◌, ◌-◌, ◌/◌, ◌%◌, ◌^◌, ◌<◌, min, ◌⊎◌, List, [], ◌∷◌, ◌++◌, length, take, drop}
+use Rattle.std.specs.Prelude.{map, sum_by}
 use Rattle.std.specs.List.{range_with_len}
 use Rattle.zone_spec.specs.Parts.{AreBytes, Header, Block, standing_words}
 use Rattle.zone_spec.specs.declared.Zone.{Zone}
@@ -8,12 +9,14 @@ use Rattle.zone_spec.specs.Stores.{Store, after_stores, byte_stores, word_store}
 use Rattle.zone_spec.specs.Stages.{Stage, StartWord, SizeWord, ParityOf, stage_stores, stage_count, stores_in_turn}
 use Rattle.zone_spec.specs.Calls.{call_stores, run_stages, IsUnderway}
 use Rattle.store_steps.specs.declared.place.Phase.{Phase}
-use Rattle.store_steps.specs.declared.place.Phase.TheVariants.{ZeroStart, ZeroSize, Size, Start, First, FirstParity, Second, SecondParity, Header as HeaderPhase, Finished}
+use Rattle.store_steps.specs.declared.place.Phase.TheVariants.{ZeroStart, ZeroSize, Size, Start, First, FirstParity}
+use Rattle.store_steps.specs.declared.place.Phase.TheVariants.{Second, SecondParity, Header as HeaderPhase, Finished}
 use Rattle.store_steps.specs.Calls.{IsOpenFor}
 use Rattle.store_steps.specs.First.{first_place}
 use Rattle.store_steps.specs.Counts.{total_of}
 use Rattle.store_steps.specs.Flying.{Flying, IsSameCall, payload, later}
-use Rattle.store_steps.specs.Phases.{first_run, second_run, first_end, second_end, phase_len, IsFinished, IsSound, IsPlaced}
+use Rattle.store_steps.specs.Phases.{first_run, second_run, first_end, second_end, phase_len, IsFinished, IsSound}
+use Rattle.store_steps.specs.Phases.{IsPlaced}
 
 -- all stores of a phase, on an image in which none or some of them are made: parity is that of its part as it stands
 abbrev pub stores_of : Flying → List ℕ → Phase → List Store

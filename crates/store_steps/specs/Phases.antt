@@ -6,7 +6,8 @@ use Rattle.zone_spec.specs.declared.Words.{Words}
 use Rattle.store_steps.specs.declared.place.Leg.{Leg}
 use Rattle.store_steps.specs.declared.place.Leg.TheVariants.{Erasure, Payload, Line, Body}
 use Rattle.store_steps.specs.declared.place.Phase.{Phase}
-use Rattle.store_steps.specs.declared.place.Phase.TheVariants.{ZeroStart, ZeroSize, Size, Start, First, FirstParity, Second, SecondParity, Header as HeaderPhase, Finished}
+use Rattle.store_steps.specs.declared.place.Phase.TheVariants.{ZeroStart, ZeroSize, Size, Start, First, FirstParity}
+use Rattle.store_steps.specs.declared.place.Phase.TheVariants.{Second, SecondParity, Header as HeaderPhase, Finished}
 use Rattle.store_steps.specs.Calls.{line_of}
 use Rattle.store_steps.specs.Flying.{Flying, payload}
 

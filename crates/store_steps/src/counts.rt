@@ -1,5 +1,6 @@
 // The lengths of what a call appends, and the number of its stores.
-ghost use Rattle.std.specs.Prelude.{◌≡◌, ◌+◌, ◌-◌, ◌*◌, ◌/◌, ◌%◌, ◌<◌, ◌≤◌, ◌^◌, ◌++◌, ◌∷◌, [], min, max, if◌then◌else◌, ◌==◌, List, ℕ, length, sum_by, filter};
+ghost use Rattle.std.specs.Prelude.{◌≡◌, ◌+◌, ◌-◌, ◌*◌, ◌/◌, ◌%◌, ◌<◌, ◌≤◌, ◌^◌, ◌++◌, ◌∷◌, [], min, max};
+ghost use Rattle.std.specs.Prelude.{if◌then◌else◌, ◌==◌, List, ℕ, length, sum_by, filter};
 ghost use Rattle.std.specs.List.{list_any, range_with_len};
 ghost use Rattle.zone_spec.specs.Zones.{IsValidZone};
 ghost use Rattle.zone_spec.specs.Stages.{stage_count};

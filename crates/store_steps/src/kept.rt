@@ -12,7 +12,8 @@ use zone_spec::CallKind;
 
 impl Steps {
     ghost use Rattle.store_steps.specs.Flying.{flying, later};
-    ghost use Rattle.store_steps.specs.Phases.{IsSound, IsPlaced, IsWithin, IsFinished, phase_len, first_end, second_end};
+    ghost use Rattle.store_steps.specs.Phases.{IsSound, IsPlaced, IsWithin, IsFinished, phase_len, first_end};
+    ghost use Rattle.store_steps.specs.Phases.{second_end};
     ghost use Rattle.store_steps.specs.Machine.{IsKept, IsFresh, count_left};
     ghost use Rattle.store_steps.specs.LeftCounts.{second_count, runs_count, behind_count};
 

@@ -1,5 +1,6 @@
 // The machine of phases: what the next store of a call is.
-ghost use Rattle.std.specs.Prelude.{◌≡◌, ◌+◌, ◌-◌, ◌*◌, ◌/◌, ◌%◌, ◌<◌, ◌≤◌, ◌^◌, false, List, ℕ, length, take, drop, IsTrue, ◌↔◌, min};
+ghost use Rattle.std.specs.Prelude.{◌≡◌, ◌+◌, ◌-◌, ◌*◌, ◌/◌, ◌%◌, ◌<◌, ◌≤◌, ◌^◌, false, List, ℕ, length, take, drop};
+ghost use Rattle.std.specs.Prelude.{IsTrue, ◌↔◌, min};
 ghost use Rattle.std.specs.Prelude.{IfSome, IsSome};
 ghost use Rattle.rs_encode.specs.Lanes.{IsLent};
 ghost use Rattle.zone_spec.specs.Parts.{AreBytes, Header, Block, standing_words};
@@ -33,8 +34,10 @@ pub struct Steps {
 impl Steps {
     ghost use Rattle.store_steps.specs.Flying.{flying, payload as leg_payload, later, IsSameCall};
     ghost use Rattle.store_steps.specs.Calls.{call_of, body_stages};
-    ghost use Rattle.store_steps.specs.Phases.{IsSound, IsPlaced, IsFinished, IsDone, first_len, second_len, first_end, second_end, phase_len};
-    ghost use Rattle.store_steps.specs.Machine.{Enters, next_stores, IsKept, StandsFor, IsSettled, IsParity, IsSameData};
+    ghost use Rattle.store_steps.specs.Phases.{IsSound, IsPlaced, IsFinished, IsDone, first_len, second_len, first_end};
+    ghost use Rattle.store_steps.specs.Phases.{second_end, phase_len};
+    ghost use Rattle.store_steps.specs.Machine.{Enters, next_stores, IsKept, StandsFor, IsSettled, IsParity};
+    ghost use Rattle.store_steps.specs.Machine.{IsSameData};
     ghost use Rattle.store_steps.specs.Counts.{pairs_of, total_of, touched_runs};
     ghost use Rattle.store_steps.specs.Handed.{handed, handed_count, IsInside};
     ghost use Rattle.zone_spec.specs.Calls.{call_stores};

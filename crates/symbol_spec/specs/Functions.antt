@@ -1,6 +1,7 @@
 -- The function that an address is of: the last one at or below it. Of several with one address it is the first of the
 -- map, as for the kernel (kernel/kallsyms.c, get_symbol_pos)
-use Rattle.std.specs.Prelude.{ℕ, Bool, true, ◌&&◌, ◌||◌, ◌==◌, nat_lt, nat_le, if◌then◌else◌, List, [], ◌∷◌, Option, Some, None}
+use Rattle.std.specs.Prelude.{ℕ, Bool, true, ◌&&◌, ◌||◌, ◌==◌, nat_lt, nat_le, if◌then◌else◌, List, [], ◌∷◌, Option}
+use Rattle.std.specs.Prelude.{Some, None}
 use Rattle.symbol_spec.specs.declared.Symbol.{Symbol}
 use Rattle.symbol_spec.specs.Maps.{symbols_of}
 

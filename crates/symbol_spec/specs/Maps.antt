@@ -1,6 +1,7 @@
 -- The functions of a map, which has the lines of System.map or /proc/kallsyms: `ffffffff81000000 T _text`. A function of
 -- a module has the module's name behind a tab: `ffffffffc0000000 t init_module [usbcore]`
-use Rattle.std.specs.Prelude.{ℕ, ◌+◌, ◌-◌, ◌*◌, ◌%◌, ◌^◌, ◌==◌, nat_lt, nat_le, Bool, true, ◌&&◌, ◌||◌, if◌then◌else◌, List, [], ◌∷◌, ◌++◌, take, drop, slice_index}
+use Rattle.std.specs.Prelude.{ℕ, ◌+◌, ◌-◌, ◌*◌, ◌%◌, ◌^◌, ◌==◌, nat_lt, nat_le, Bool, true, ◌&&◌, ◌||◌, if◌then◌else◌}
+use Rattle.std.specs.Prelude.{List, [], ◌∷◌, ◌++◌, take, drop, slice_index}
 use Rattle.std.specs.List.{prefix_len, list_any}
 use Rattle.symbol_spec.specs.declared.Symbol.{Symbol}
 

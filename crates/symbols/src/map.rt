@@ -1,7 +1,11 @@
 // The functions of a map.
-ghost use Rattle.std.specs.Prelude.{◌≡◌, ◌+◌, ◌++◌, ◌*◌, ◌%◌, ◌<◌, ◌≤◌, ◌^◌, true, nat_lt, length, drop, slice_index, All, IfOk, OnOk};
+ghost use Rattle.std.specs.Prelude.{◌≡◌, ◌+◌, ◌++◌, ◌*◌, ◌%◌, ◌<◌, ◌≤◌, ◌^◌, true, nat_lt, length, drop, slice_index};
+ghost use Rattle.std.specs.Prelude.{All, IfOk, OnOk};
 ghost use Rattle.std.specs.List.{list_any, prefix_len};
-ghost use Rattle.symbol_spec.specs.Maps.{is_digit as is_digit_byte, digit_value as value_of, number_after as number_of, digits as digits_of, is_type as is_type_byte, is_of_name as is_name_byte, is_typed as is_typed_text, is_symbol as is_symbol_text, symbol_of, symbol_if, symbols_from, symbols_of, name_at as name_of};
+ghost use Rattle.symbol_spec.specs.Maps.{is_digit as is_digit_byte, digit_value as value_of, number_after as number_of};
+ghost use Rattle.symbol_spec.specs.Maps.{digits as digits_of, is_type as is_type_byte, is_of_name as is_name_byte};
+ghost use Rattle.symbol_spec.specs.Maps.{is_typed as is_typed_text, is_symbol as is_symbol_text, symbol_of, symbol_if};
+ghost use Rattle.symbol_spec.specs.Maps.{symbols_from, symbols_of, name_at as name_of};
 ghost use Rattle.symbols.specs.Ranks.{IsInside};
 
 use std::alloc::{AllocError, Global};

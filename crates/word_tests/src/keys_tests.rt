@@ -11,7 +11,7 @@ const PLAIN: Keys = Keys {
     names: &["total_size", "kmsg_size", "pmsg_size"],
 };
 
-fn words_of(alloc: Global, line: &str) -> Result<Vec<String>, AllocError> {
+fn split_words(alloc: Global, line: &str) -> Result<Vec<String>, AllocError> {
     let mut words = Vec::new(alloc);
     for word in line.split(' ') {
         if !word.is_empty() {
@@ -60,7 +60,7 @@ fn numbers_have_three_spellings(rt: HostRuntime) {
 
 // The first fault of the words of a line.
 fn fault_of(alloc: Global, keys: Keys, line: &str) -> Result<Option<ParamFault>, AllocError> {
-    let words = words_of(alloc, line)?;
+    let words = split_words(alloc, line)?;
     Ok(keys.first_fault(&words))
 }
 
@@ -119,7 +119,7 @@ const GIVEN: &[(&str, Option<u32>)] = &[("ecc", Some(16)), ("cpus", Some(8)), ("
 
 #[test]
 fn words_give_numbers(rt: HostRuntime) {
-    let words = words_of(rt.alloc(), "ramoops.ecc=0x10 cpus=010 mem_size=x").expect(
+    let words = split_words(rt.alloc(), "ramoops.ecc=0x10 cpus=010 mem_size=x").expect(
         &rt,
         "there is memory",
     );

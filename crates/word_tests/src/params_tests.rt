@@ -2,7 +2,7 @@ use ramoops_layout::*;
 use std::alloc::{AllocError, Global};
 use std::test::Fail;
 
-fn words_of(alloc: Global, line: &str) -> Result<Vec<String>, AllocError> {
+fn split_words(alloc: Global, line: &str) -> Result<Vec<String>, AllocError> {
     let mut words = Vec::new(alloc);
     for word in line.split(' ') {
         if !word.is_empty() {
@@ -14,7 +14,7 @@ fn words_of(alloc: Global, line: &str) -> Result<Vec<String>, AllocError> {
 
 // The number of the layout's fault, 0 for none.
 fn layout_fault_of(alloc: Global, line: &str) -> Result<u32, AllocError> {
-    let words = words_of(alloc, line)?;
+    let words = split_words(alloc, line)?;
     Ok(match read_words(&words) {
         Ok(p) => match layout(alloc, &p) {
             Ok(_) => 0,
@@ -26,7 +26,7 @@ fn layout_fault_of(alloc: Global, line: &str) -> Result<u32, AllocError> {
 }
 
 fn laid(alloc: Global, line: &str) -> Result<Option<types::Layout>, AllocError> {
-    let words = words_of(alloc, line)?;
+    let words = split_words(alloc, line)?;
     Ok(match read_words(&words) {
         Ok(p) => layout(alloc, &p).ok(),
         Err(_) => None,
@@ -42,7 +42,7 @@ fn shape(l: &types::Layout, kind: Kind, index: u32) -> Option<(u32, u32, u32, u3
 
 #[test]
 fn keys_have_their_defaults(rt: HostRuntime) {
-    let words = words_of(
+    let words = split_words(
         rt.alloc(),
         "ramoops.ecc_console=0 ramoops.ftrace_sig=0x43474244 ecc=5",
     )
@@ -150,7 +150,7 @@ fn ftrace_zones_have_the_tag(rt: HostRuntime) {
 // half mebibytes.
 #[test]
 fn memory_is_rounded_or_as_given(rt: HostRuntime) -> Result<(), Fail> {
-    let words = words_of(rt.alloc(), "mem_size=0x180000 record_size=0x20000")?;
+    let words = split_words(rt.alloc(), "mem_size=0x180000 record_size=0x20000")?;
     let rounded = read_words(&words).map_err(|_| "no parameters")?;
     assert!(rt; rounded.mem == 0x100000);
     let given = read_words_over(&words, &DEFAULTS).map_err(|_| "no parameters")?;
@@ -168,12 +168,12 @@ fn memory_is_rounded_or_as_given(rt: HostRuntime) -> Result<(), Fail> {
 // `ecc=1` is 16 parity bytes, and so is a kind's own 1.
 #[test]
 fn one_is_sixteen(rt: HostRuntime) -> Result<(), Fail> {
-    let words = words_of(rt.alloc(), "ecc=1 ecc_dump=2 ecc_pmsg=1")?;
+    let words = split_words(rt.alloc(), "ecc=1 ecc_dump=2 ecc_pmsg=1")?;
     let p = read_words(&words).map_err(|_| "no parameters")?;
     assert!(rt;
         (p.ecc, p.ecc_dump, p.ecc_console, p.ecc_ftrace, p.ecc_pmsg) == (16, 2, 16, 16, 16)
     );
-    let words = words_of(rt.alloc(), "ecc=2 ecc_dump=1")?;
+    let words = split_words(rt.alloc(), "ecc=2 ecc_dump=1")?;
     let p = read_words(&words).map_err(|_| "no parameters")?;
     assert!(rt; (p.ecc, p.ecc_dump, p.ecc_pmsg) == (2, 16, 2));
     Ok(())

@@ -1,5 +1,7 @@
 -- Contents and names of records
-use Rattle.std.proofs.Common.{◌≡◌, ℕ, ◌+◌, Bool, true, false, not, ◌==◌, if◌then◌else◌, List, [], ◌∷◌, ◌++◌, map, length, length-append, codes, Option, Some, None, is_some, refl, sym, ap, ◌∙◌, append_assoc, Bor, suc, ◌<◌, get_or, arith, ◌||◌}
+use Rattle.std.proofs.Common.{◌≡◌, ℕ, ◌+◌, Bool, true, false, not, ◌==◌, if◌then◌else◌, List, [], ◌∷◌, ◌++◌, map}
+use Rattle.std.proofs.Common.{length, length-append, codes, Option, Some, None, is_some, refl, sym, ap, ◌∙◌}
+use Rattle.std.proofs.Common.{append_assoc, Bor, suc, ◌<◌, get_or, arith, ◌||◌}
 use Rattle.std.specs.Prelude.{decimal}
 use Rattle.std.specs.List.{find, list_any, All}
 use Rattle.std.specs.Option.{option_map, option_copied}

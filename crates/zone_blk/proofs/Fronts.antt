@@ -1,10 +1,12 @@
 -- A zone's header and its log read as the whole zone does
-use Rattle.std.proofs.Common.{◌≡◌, ℕ, ◌+◌, ◌-◌, ◌≤◌, ◌<◌, true, false, ◌&&◌, nat_lt, List, length, take, drop, ◌++◌, ◌⊎◌, Option, Some, None, IfSome, refl, sym, ap, ◌∙◌, arith}
+use Rattle.std.proofs.Common.{◌≡◌, ℕ, ◌+◌, ◌-◌, ◌≤◌, ◌<◌, true, false, ◌&&◌, nat_lt, List, length, take, drop, ◌++◌}
+use Rattle.std.proofs.Common.{◌⊎◌, Option, Some, None, IfSome, refl, sym, ap, ◌∙◌, arith}
 use Rattle.std.proofs.lemmas.List.{take-take, drop-drop, get_or-take}
 use Rattle.list_laws.proofs.Slices.{take-drop-take, slice_range-take}
 use Rattle.zone_spec.specs.declared.Words.{Words}
 use Rattle.blk_spec.specs.declared.BlkZone.{BlkZone}
-use Rattle.blk_spec.specs.Reading.{BlkDump, zone_bytes, header_words, is_valid, is_dump, ring_log, saved_ring, dump_seen, listed_dump}
+use Rattle.blk_spec.specs.Reading.{BlkDump, zone_bytes, header_words, is_valid, is_dump, ring_log, saved_ring}
+use Rattle.blk_spec.specs.Reading.{dump_seen, listed_dump}
 use Rattle.zone_blk.proofs.Readings.{no-zone, no-log, start-within, some-log, no-dump, some-dump, dump-body}
 
 part-same : (n from : ℕ) (z : BlkZone) (bs : List ℕ) → from + n ≤ z.size

@@ -4,10 +4,10 @@ pub mod Sequences
 pub mod Turns
 pub mod Fronts
 pub mod Readings
-pub mod Finding
+pub mod FirstItem
 pub mod Texts
-pub mod Clearing
+pub mod LoadingWrites
 pub mod Contents
 pub mod DumpWrite
-pub mod Called
+pub mod OneNameText
 pub mod LayoutLaws

@@ -1,5 +1,7 @@
 -- Saved rings and listed dumps, by the tests of their headers
-use Rattle.std.proofs.Common.{◌≡◌, ◌≢◌, get_or, eq-eqb, ℕ, zero, suc, ◌+◌, ◌-◌, ◌<◌, ◌≤◌, ◌==◌, max, Bool, true, false, ◌&&◌, if◌then◌else◌, nat_lt, List, [], ◌∷◌, ◌++◌, length, take, drop, Option, Some, None, IfSome, option_to_list, refl, sym, ap, ◌∙◌, arith, append_assoc, subst}
+use Rattle.std.proofs.Common.{◌≡◌, ◌≢◌, get_or, eq-eqb, ℕ, zero, suc, ◌+◌, ◌-◌, ◌<◌, ◌≤◌, ◌==◌, max, Bool, true, false}
+use Rattle.std.proofs.Common.{◌&&◌, if◌then◌else◌, nat_lt, List, [], ◌∷◌, ◌++◌, length, take, drop, Option, Some, None}
+use Rattle.std.proofs.Common.{IfSome, option_to_list, refl, sym, ap, ◌∙◌, arith, append_assoc, subst}
 use Rattle.std.specs.List.{fold, flat_map, range_with_len, All}
 use Rattle.std.proofs.lemmas.List.{take-take, append-nil, nil_from_length, drop-take, at_drop_more, at_drop_all}
 use Rattle.std.proofs.lemmas.List.Elements.{All-push}
@@ -9,7 +11,8 @@ use Rattle.zone_spec.specs.declared.Words.{Words}
 use Rattle.blk_spec.specs.declared.BlkZone.{BlkZone}
 use Rattle.blk_spec.specs.declared.BlkLayout.{BlkLayout}
 use Rattle.blk_spec.specs.Layout.{dump_zone}
-use Rattle.blk_spec.specs.Reading.{BlkDump, zone_bytes, header_words, is_valid, is_dump, ring_log, saved_ring, dump_seen, listed_dump, dump_listed, dumps_listed, greatest_counter}
+use Rattle.blk_spec.specs.Reading.{BlkDump, zone_bytes, header_words, is_valid, is_dump, ring_log, saved_ring}
+use Rattle.blk_spec.specs.Reading.{dump_seen, listed_dump, dump_listed, dumps_listed, greatest_counter}
 use Rattle.zone_blk.specs.Loading.{IsIn}
 
 -- a zone of no byte has no signature

@@ -1,16 +1,20 @@
 -- Writes one behind another: all made, or the store failed within them
-use Rattle.std.proofs.Common.{◌≡◌, ℕ, ◌+◌, ◌-◌, ◌<◌, ◌≤◌, ◌==◌, min, Bool, true, false, if◌then◌else◌, replicate, List, [], ◌∷◌, ◌++◌, length, take, Option, Some, None, MatchResult, Result, Ok, Err, refl, sym, ap, ◌∙◌, arith, append_assoc, length-take, ◌⊎◌, inl, inr, subst}
+use Rattle.std.proofs.Common.{◌≡◌, ℕ, ◌+◌, ◌-◌, ◌<◌, ◌≤◌, ◌==◌, min, Bool, true, false, if◌then◌else◌, replicate, List}
+use Rattle.std.proofs.Common.{[], ◌∷◌, ◌++◌, length, take, Option, Some, None, MatchResult, Result, Ok, Err, refl, sym}
+use Rattle.std.proofs.Common.{ap, ◌∙◌, arith, append_assoc, length-take, ◌⊎◌, inl, inr, subst}
 use Rattle.std.proofs.lemmas.List.{take-take, append-nil, length-replicate}
 use Rattle.std.proofs.lemmas.Bool.{eqb-true}
 use Rattle.blk_laws.proofs.Zones.{after-none}
 use Rattle.outside.specs.declared.outside.Failed.{Failed}
 use Rattle.outside.specs.Outside.{next_count, Writes, WritesFront}
 use Rattle.blk_spec.specs.declared.BlkCut.{BlkCut}
-use Rattle.blk_spec.specs.Writes.{Write, after_writes, store_after, bytes_in, first_bytes, through, spent, asks_of, in_pieces}
+use Rattle.blk_spec.specs.Writes.{Write, after_writes, store_after, bytes_in, first_bytes, through, spent, asks_of}
+use Rattle.blk_spec.specs.Writes.{in_pieces}
 use Rattle.blk_spec.specs.Dumps.{zeros_by}
 use Rattle.blk_spec.specs.Answers.{HasRoom, Device, further, Makes, FailsWithin}
 use Rattle.zone_blk.specs.Outcomes.{Ends, one_write}
-use Rattle.zone_blk.proofs.Effects.{bytes_in-append, in-turn-told, through-more, spent-more, through-within, all-or-none, spent-none, asks-append, further-more}
+use Rattle.zone_blk.proofs.Effects.{bytes_in-append, in-turn-told, through-more, spent-more, through-within}
+use Rattle.zone_blk.proofs.Effects.{all-or-none, spent-none, asks-append, further-more}
 use Rattle.blk_laws.proofs.Pieces.{no-zeros, next-zeros}
 
 pub bytes_in-one : (at : ℕ) (bytes : List ℕ) → bytes_in (one_write at bytes) ≡ length bytes

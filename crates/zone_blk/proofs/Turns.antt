@@ -1,5 +1,6 @@
 -- The parts of an append
-use Rattle.std.proofs.Common.{◌≡◌, ℕ, ◌-◌, ◌==◌, Bool, true, false, if◌then◌else◌, nat_lt, List, [], ◌∷◌, ◌++◌, length, take, drop, Result, Ok, Err, IfOk, refl, ap, ◌∙◌, arith, length-drop}
+use Rattle.std.proofs.Common.{◌≡◌, ℕ, ◌-◌, ◌==◌, Bool, true, false, if◌then◌else◌, nat_lt, List, [], ◌∷◌, ◌++◌, length}
+use Rattle.std.proofs.Common.{take, drop, Result, Ok, Err, IfOk, refl, ap, ◌∙◌, arith, length-drop}
 use Rattle.std.proofs.lemmas.Bool.{le-ltb, eqb-true}
 use Rattle.std.proofs.lemmas.Bool.Decides.{nat_tests}
 use Rattle.blk_spec.specs.declared.BlkZone.{BlkZone}
@@ -7,7 +8,8 @@ use Rattle.blk_spec.specs.declared.BlkWords.{BlkWords}
 use Rattle.blk_spec.specs.declared.BlkCut.{BlkCut}
 use Rattle.blk_spec.specs.Layout.{capacity}
 use Rattle.blk_spec.specs.Writes.{Write}
-use Rattle.blk_spec.specs.Rings.{header_write, run_writes, first_run, first_words, run_words, is_short, last_words, kept_writes, append_writes, words_after}
+use Rattle.blk_spec.specs.Rings.{header_write, run_writes, first_run, first_words, run_words, is_short, last_words}
+use Rattle.blk_spec.specs.Rings.{kept_writes, append_writes, words_after}
 use Rattle.blk_spec.specs.Answers.{Device, Makes, FailsWithin}
 use Rattle.outside.specs.declared.outside.Failed.{Failed}
 use Rattle.zone_blk.specs.declared.appending.Turn.{Turn}

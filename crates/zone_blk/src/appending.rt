@@ -3,7 +3,8 @@ ghost use Rattle.std.specs.Prelude.{◌≡◌, ◌+◌, ◌-◌, ◌<◌, ◌≤
 ghost use Rattle.outside.specs.Outside.{HasCause};
 ghost use Rattle.blk_spec.specs.Layout.{capacity};
 ghost use Rattle.blk_spec.specs.Answers.{HasRoom, device};
-ghost use Rattle.blk_spec.specs.Rings.{header_write, run_writes, first_run, first_words, run_words, is_short, last_words, kept_writes, append_writes, words_after};
+ghost use Rattle.blk_spec.specs.Rings.{header_write, run_writes, first_run, first_words, run_words, is_short};
+ghost use Rattle.blk_spec.specs.Rings.{last_words, kept_writes, append_writes, words_after};
 ghost use Rattle.zone_blk.specs.Outcomes.{Ends};
 ghost use Rattle.zone_blk.specs.Fits.{IsZone, IsWithin};
 

@@ -1,15 +1,19 @@
 // A loaded block store.
-ghost use Rattle.std.specs.Prelude.{◌≡◌, ℕ, ◌+◌, ◌-◌, ◌^◌, ◌<◌, ◌≤◌, bytes_eq, length, IfOk, IfSome, Err, Some, None, is_some, IsTrue};
+ghost use Rattle.std.specs.Prelude.{◌≡◌, ℕ, ◌+◌, ◌-◌, ◌^◌, ◌<◌, ◌≤◌, bytes_eq, length, IfOk, IfSome, Err, Some, None};
+ghost use Rattle.std.specs.Prelude.{is_some, IsTrue};
 ghost use Rattle.std.specs.List.{find};
 ghost use Rattle.std.specs.Option.{option_map};
 ghost use Rattle.outside.specs.Outside.{HasCause, Rose};
 ghost use Rattle.blk_spec.specs.Layout.{IsLayout};
 ghost use Rattle.blk_spec.specs.Answers.{HasRoom, device, Answers, Loads, KeptUnlessFault};
-ghost use Rattle.blk_spec.specs.States.{append_refusal, append_of, appended, dump_refusal, dump_of, dump_pieces_of, dumped, erase_refusal, erase_of, erased, cut_after as cut_state, names_of, content_of, time_of, is_listed, zone_of, loaded, load_writes, clearing};
+ghost use Rattle.blk_spec.specs.States.{append_refusal, append_of, appended, dump_refusal, dump_of, dump_pieces_of};
+ghost use Rattle.blk_spec.specs.States.{dumped, erase_refusal, erase_of, erased, cut_after as cut_state, names_of};
+ghost use Rattle.blk_spec.specs.States.{content_of, time_of, is_listed, zone_of, loaded, load_writes, clearing};
 ghost use Rattle.blk_spec.specs.Rings.{empty_words};
 ghost use Rattle.blk_spec.specs.Writes.{limited as limited_to};
 ghost use Rattle.blk_spec.specs.Reading.{BlkDump};
-ghost use Rattle.blk_spec.specs.Names.{is_name as is_same, name_text, dump_name as name_of_dump, dump_content as content_of_dump};
+ghost use Rattle.blk_spec.specs.Names.{is_name as is_same, name_text, dump_name as name_of_dump};
+ghost use Rattle.blk_spec.specs.Names.{dump_content as content_of_dump};
 ghost use Rattle.blk_spec.specs.Dumps.{counter_for as counter_of, counted as counted_of};
 ghost use Rattle.zone_blk.specs.Outcomes.{Ends};
 ghost use Rattle.zone_blk.specs.Loading.{ReadEnds};

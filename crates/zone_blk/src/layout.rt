@@ -1,8 +1,10 @@
 // The layout of the block store.
-ghost use Rattle.std.specs.Prelude.{◌≡◌, ◌+◌, ◌<◌, ◌==◌, ◌||◌, ◌&&◌, ◌%◌, ◌∷◌, [], nat_lt, min, ◌-◌, ◌^◌, ◌≤◌, IfOk, None};
+ghost use Rattle.std.specs.Prelude.{◌≡◌, ◌+◌, ◌<◌, ◌==◌, ◌||◌, ◌&&◌, ◌%◌, ◌∷◌, [], nat_lt, min, ◌-◌, ◌^◌, ◌≤◌, IfOk};
+ghost use Rattle.std.specs.Prelude.{None};
 ghost use Rattle.std.specs.List.{list_all};
 ghost use Rattle.zone_spec.specs.Layout.{first_fault as first_of};
-ghost use Rattle.blk_spec.specs.Layout.{layout_of, faults as faults_of, dump_memory, dump_count as dump_count_of, kmsg_size as kmsg_size_of, IsLayout};
+ghost use Rattle.blk_spec.specs.Layout.{layout_of, faults as faults_of, dump_memory, dump_count as dump_count_of};
+ghost use Rattle.blk_spec.specs.Layout.{kmsg_size as kmsg_size_of, IsLayout};
 
 use blk_spec::{BlkLayout, BlkParams};
 use zone_spec::LayoutFault;

@@ -1,6 +1,8 @@
 // The names of records, and their contents.
-ghost use Rattle.std.specs.Prelude.{◌≡◌, ◌+◌, ◌≤◌, ◌++◌, ◌∷◌, [], List, codes, decimal, length, IfOk, OnOk, map, not, ◌==◌};
-ghost use Rattle.blk_spec.specs.Names.{IsNameOf, is_name as is_same, dump_name as name_of_dump, dump_content as content_of_dump};
+ghost use Rattle.std.specs.Prelude.{◌≡◌, ◌+◌, ◌≤◌, ◌++◌, ◌∷◌, [], List, codes, decimal, length, IfOk, OnOk, map, not};
+ghost use Rattle.std.specs.Prelude.{◌==◌};
+ghost use Rattle.blk_spec.specs.Names.{IsNameOf, is_name as is_same, dump_name as name_of_dump};
+ghost use Rattle.blk_spec.specs.Names.{dump_content as content_of_dump};
 ghost use Rattle.kmsg_spec.specs.Reasons.{reason_word};
 ghost use Rattle.std.specs.List.{find, filter};
 ghost use Rattle.std.specs.Option.{option_map, option_copied};

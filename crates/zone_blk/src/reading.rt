@@ -1,11 +1,14 @@
 // What a loading reads of the store.
-ghost use Rattle.std.specs.Prelude.{◌≡◌, ◌+◌, ◌-◌, ◌<◌, ◌≤◌, length, take, drop, slice_range, IfOk, IfSome, OnOk, IsTrue, ◌++◌, option_to_list, vec_len, None, nat_lt, ◌&&◌};
+ghost use Rattle.std.specs.Prelude.{◌≡◌, ◌+◌, ◌-◌, ◌<◌, ◌≤◌, length, take, drop, slice_range, IfOk, IfSome, OnOk};
+ghost use Rattle.std.specs.Prelude.{IsTrue, ◌++◌, option_to_list, vec_len, None, nat_lt, ◌&&◌};
 ghost use Rattle.std.specs.List.{All};
 ghost use Rattle.std.specs.Int.{from_le_bytes};
 ghost use Rattle.std.proofs.Common.{w32, w64};
 ghost use Rattle.blk_spec.specs.Layout.{IsLayout};
 ghost use Rattle.blk_spec.specs.Answers.{HasRoom};
-ghost use Rattle.blk_spec.specs.Reading.{zone_bytes, header_words as words_of, is_valid as is_valid_zone, is_dump as is_dump_zone, ring_log, saved_ring as saved_of, dump_seen, listed_dump as dump_of, dumps_listed, greatest_counter as greatest_of};
+ghost use Rattle.blk_spec.specs.Reading.{zone_bytes, header_words as words_read, is_valid as is_valid_zone};
+ghost use Rattle.blk_spec.specs.Reading.{is_dump as is_dump_zone, ring_log, saved_ring as saved_of, dump_seen};
+ghost use Rattle.blk_spec.specs.Reading.{listed_dump as dump_of, dumps_listed, greatest_counter as greatest_of};
 ghost use Rattle.zone_blk.specs.Fits.{IsZone};
 ghost use Rattle.zone_blk.specs.Loading.{ReadEnds, IsIn};
 
@@ -73,7 +76,7 @@ fn long_at(bytes: &[u8], at: usize) -> u64
 
 fn header_words(bytes: &[u8]) -> Words
     requires { 12 ≤ length bytes.now }
-    ensures { result ≡ words_of bytes.now }
+    ensures { result ≡ words_read bytes.now }
 {
     Words {
         sig: word_at(bytes, 0),
@@ -170,7 +173,7 @@ fn read_header<M: Load>(store: &mut M, zone: BlkZone) -> Result<Words, BlkFault>
     requires zone { IsZone zone }
     requires sized { 12 ≤ zone.size }
     requires room { HasRoom (zone.at + zone.size) (M.holds store.old) }
-    ensures words { IfOk result (λ words. IfSome (M.holds store.old) (λ bs. words ≡ words_of (zone_bytes bs zone))) }
+    ensures words { IfOk result (λ words. IfSome (M.holds store.old) (λ bs. words ≡ words_read (zone_bytes bs zone))) }
     ensures ends { ReadEnds result (M.faults store.old) (M.faults store.new) (M.read_faults store.old)
         (M.read_faults store.new) }
     ensures same { M.holds store.new ≡ M.holds store.old }

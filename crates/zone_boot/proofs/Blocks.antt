@@ -1,5 +1,6 @@
 -- The bytes of a block, and those that data places read
-use Rattle.std.proofs.Common.{◌≡◌, ℕ, ◌+◌, ◌-◌, ◌*◌, ◌/◌, ◌%◌, ◌<◌, ◌≤◌, min, List, [], ◌++◌, length, take, drop, map, get_or, slice_range, sym, ap, ◌∙◌, arith, mul_comm, get_or-drop, length-drop}
+use Rattle.std.proofs.Common.{◌≡◌, ℕ, ◌+◌, ◌-◌, ◌*◌, ◌/◌, ◌%◌, ◌<◌, ◌≤◌, min, List, [], ◌++◌, length, take, drop, map}
+use Rattle.std.proofs.Common.{get_or, slice_range, sym, ap, ◌∙◌, arith, mul_comm, get_or-drop, length-drop}
 use Rattle.std.specs.Prelude.{slice_index}
 use Rattle.std.specs.List.{range_with_len}
 use Rattle.std.proofs.lemmas.List.{map-append, drop-map, take-map}

@@ -1,5 +1,7 @@
 -- A time line is read from a log's first 36 bytes
-use Rattle.std.proofs.Common.{◌≡◌, ℕ, zero, suc, ◌+◌, ◌-◌, ◌^◌, ◌≤◌, min, Bool, true, false, cond, ◌&&◌, if◌then◌else◌, nat_le, nat_lt, List, [], ◌∷◌, ◌++◌, length, take, drop, codes, Option, Some, None, refl, sym, ap, ap₂, ◌∙◌, arith, inl, inr, length-take}
+use Rattle.std.proofs.Common.{◌≡◌, ℕ, zero, suc, ◌+◌, ◌-◌, ◌^◌, ◌≤◌, min, Bool, true, false, cond, ◌&&◌, if◌then◌else◌}
+use Rattle.std.proofs.Common.{nat_le, nat_lt, List, [], ◌∷◌, ◌++◌, length, take, drop, codes, Option, Some, None, refl}
+use Rattle.std.proofs.Common.{sym, ap, ap₂, ◌∙◌, arith, inl, inr, length-take}
 use Rattle.std.specs.Prelude.{bytes_eq, is_some}
 use Rattle.std.specs.List.{take_while}
 use Rattle.std.proofs.Math.Seq.{take-append_seam}

@@ -7,7 +7,8 @@ use Rattle.zone_spec.specs.Stores.{Store, after_stores}
 use Rattle.zone_spec.specs.Boot.{boot_stores}
 use Rattle.zone_boot.specs.declared.boots.Boot.{Boot}
 use Rattle.zone_boot.specs.declared.boots.Phase.{Phase}
-use Rattle.zone_boot.specs.declared.boots.Phase.TheVariants.{Header as HeaderPhase, Blocks, Signature, Start, Size, Parity, Finished}
+use Rattle.zone_boot.specs.declared.boots.Phase.TheVariants.{Header as HeaderPhase, Blocks, Signature, Start, Size}
+use Rattle.zone_boot.specs.declared.boots.Phase.TheVariants.{Parity, Finished}
 use Rattle.zone_boot.specs.declared.handing.BootStore.{BootStore}
 use Rattle.zone_boot.specs.Left.{left_at}
 use Rattle.zone_boot.specs.Handed.{handed, handed_len, IsPlain}

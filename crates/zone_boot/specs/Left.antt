@@ -11,7 +11,8 @@ use Rattle.zone_spec.specs.Boot.{fix_stores, part_fixes}
 use Rattle.zone_boot.specs.declared.deciding.Erasure.{Erasure}
 use Rattle.zone_boot.specs.declared.deciding.Erasure.TheVariants.{Kept, Erased, Signed}
 use Rattle.zone_boot.specs.declared.boots.Phase.{Phase}
-use Rattle.zone_boot.specs.declared.boots.Phase.TheVariants.{Header as HeaderPhase, Blocks, Signature, Start, Size, Parity, Finished}
+use Rattle.zone_boot.specs.declared.boots.Phase.TheVariants.{Header as HeaderPhase, Blocks, Signature, Start, Size}
+use Rattle.zone_boot.specs.declared.boots.Phase.TheVariants.{Parity, Finished}
 
 -- the stages of an erasure
 abbrev pub stages_of : Zone → Erasure → List Stage

@@ -1,5 +1,6 @@
 // A boot between its stores.
-ghost use Rattle.std.specs.Prelude.{◌≡◌, ◌+◌, ◌-◌, ◌*◌, ◌/◌, ◌≤◌, ◌<◌, ◌^◌, ◌↔◌, ◌++◌, List, ℕ, [], length, take, drop, slice_range, sum_by, if◌then◌else◌, IsTrue};
+ghost use Rattle.std.specs.Prelude.{◌≡◌, ◌+◌, ◌-◌, ◌*◌, ◌/◌, ◌≤◌, ◌<◌, ◌^◌, ◌↔◌, ◌++◌, List, ℕ, [], length, take, drop};
+ghost use Rattle.std.specs.Prelude.{slice_range, sum_by, if◌then◌else◌, IsTrue};
 ghost use Rattle.zone_spec.specs.Zones.{IsValidZone};
 ghost use Rattle.zone_spec.specs.Stores.{after_stores};
 ghost use Rattle.zone_spec.specs.Boot.{boot_fixes, boot_stores, signing, keeps as keeps_zone};

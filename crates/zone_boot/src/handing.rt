@@ -1,5 +1,6 @@
 // The stores that are handed out next.
-ghost use Rattle.std.specs.Prelude.{◌≡◌, ◌≢◌, ◌+◌, ◌-◌, ◌≤◌, ◌<◌, ◌↔◌, ◌^◌, ◌++◌, ℕ, [], length, drop, slice_index, slice_range, IsTrue};
+ghost use Rattle.std.specs.Prelude.{◌≡◌, ◌≢◌, ◌+◌, ◌-◌, ◌≤◌, ◌<◌, ◌↔◌, ◌^◌, ◌++◌, ℕ, [], length, drop, slice_index};
+ghost use Rattle.std.specs.Prelude.{slice_range, IsTrue};
 ghost use Rattle.zone_spec.specs.Stores.{byte_stores, word_store};
 ghost use Rattle.zone_spec.specs.Boot.{fix_stores};
 

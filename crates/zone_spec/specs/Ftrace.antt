@@ -1,6 +1,7 @@
 -- The entries of an ftrace log, and the merge of several by their times (fs/pstore/ftrace.c,
 -- pstore_ftrace_combine_log)
-use Rattle.std.specs.Prelude.{ℕ, zero, suc, ◌/◌, ◌%◌, if◌then◌else◌, nat_le, List, [], ◌∷◌, length, take, drop, slice_range, flat_map, fold}
+use Rattle.std.specs.Prelude.{ℕ, zero, suc, ◌/◌, ◌%◌, if◌then◌else◌, nat_le, List, [], ◌∷◌, length, take, drop}
+use Rattle.std.specs.Prelude.{slice_range, flat_map, fold}
 use Rattle.std.specs.Int.{from_le_bytes}
 use Rattle.std.proofs.Common.{w64}
 

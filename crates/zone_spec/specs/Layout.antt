@@ -1,5 +1,6 @@
 -- The layout of a parameter list: its zones, or its first fault
-use Rattle.std.specs.Prelude.{ℕ, zero, suc, ◌+◌, ◌-◌, ◌*◌, ◌/◌, ◌^◌, Bool, ◌&&◌, ◌||◌, not, if◌then◌else◌, nat_lt, nat_le, bit_xor, ◌==◌, List, [], ◌∷◌, ◌++◌, map, Option, Some, None, Result, Ok, Err}
+use Rattle.std.specs.Prelude.{ℕ, zero, suc, ◌+◌, ◌-◌, ◌*◌, ◌/◌, ◌^◌, Bool, ◌&&◌, ◌||◌, not, if◌then◌else◌, nat_lt}
+use Rattle.std.specs.Prelude.{nat_le, bit_xor, ◌==◌, List, [], ◌∷◌, ◌++◌, map, Option, Some, None, Result, Ok, Err}
 use Rattle.std.specs.List.{list_any, list_all, range_with_len}
 use Rattle.zone_spec.specs.declared.Kind.{Kind}
 use Rattle.zone_spec.specs.declared.Kind.TheVariants.{Dump, Console, Ftrace, Pmsg}
@@ -7,7 +8,8 @@ use Rattle.zone_spec.specs.declared.Zone.{Zone}
 use Rattle.zone_spec.specs.declared.params.Params.{Params}
 use Rattle.zone_spec.specs.declared.params.Row.{Row}
 use Rattle.zone_spec.specs.declared.params.LayoutFault.{LayoutFault}
-use Rattle.zone_spec.specs.declared.params.LayoutFault.TheVariants.{NoMemory, NoZone, TooLarge, EccTooLarge, NoRoom, ZoneTooSmall, EccInvalid, CpusBad, BlockBad}
+use Rattle.zone_spec.specs.declared.params.LayoutFault.TheVariants.{NoMemory, NoZone, TooLarge, EccTooLarge, NoRoom}
+use Rattle.zone_spec.specs.declared.params.LayoutFault.TheVariants.{ZoneTooSmall, EccInvalid, CpusBad, BlockBad}
 use Rattle.zone_spec.specs.Numbers.{header_len, plain_sig, most_memory}
 use Rattle.zone_spec.specs.Zones.{blocks_in}
 

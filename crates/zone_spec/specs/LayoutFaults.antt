@@ -1,7 +1,9 @@
 -- The numbers of a layout's faults, as texts name them; 10 is none
 use Rattle.std.specs.Prelude.{ℕ}
 use Rattle.zone_spec.specs.declared.params.LayoutFault.{LayoutFault}
-use Rattle.zone_spec.specs.declared.params.LayoutFault.TheVariants.{NoMemory, NoZone, TooLarge, EccTooLarge, NoRoom, ZoneTooSmall, EccInvalid, CpusBad, NotPage, BlockBad}
+use Rattle.zone_spec.specs.declared.params.LayoutFault.TheVariants.{NoMemory, NoZone, TooLarge, EccTooLarge, NoRoom}
+use Rattle.zone_spec.specs.declared.params.LayoutFault.TheVariants.{ZoneTooSmall, EccInvalid, CpusBad, NotPage}
+use Rattle.zone_spec.specs.declared.params.LayoutFault.TheVariants.{BlockBad}
 
 abbrev pub fault_number : LayoutFault → ℕ
 fault_number NoMemory = 1

@@ -1,10 +1,12 @@
 -- What a record's content ends with where its kind has parity (fs/pstore/ram.c, persistent_ram_ecc_string)
-use Rattle.std.specs.Prelude.{ℕ, ◌+◌, Bool, ◌&&◌, if◌then◌else◌, nat_lt, ◌==◌, List, [], ◌∷◌, ◌++◌, filter, flat_map, sum_by, codes, decimal}
+use Rattle.std.specs.Prelude.{ℕ, ◌+◌, Bool, ◌&&◌, if◌then◌else◌, nat_lt, ◌==◌, List, [], ◌∷◌, ◌++◌, filter, flat_map}
+use Rattle.std.specs.Prelude.{sum_by, codes, decimal}
 use Rattle.std.specs.List.{list_any}
 use Rattle.zone_spec.specs.declared.Zone.{Zone}
 use Rattle.zone_spec.specs.declared.Kind.TheVariants.{Dump, Console, Ftrace, Pmsg}
 use Rattle.zone_spec.specs.declared.Name.{Name}
-use Rattle.zone_spec.specs.declared.Name.TheVariants.{Dump as DumpName, Console as ConsoleName, Pmsg as PmsgName, Ftrace as FtraceName}
+use Rattle.zone_spec.specs.declared.Name.TheVariants.{Dump as DumpName, Console as ConsoleName, Pmsg as PmsgName}
+use Rattle.zone_spec.specs.declared.Name.TheVariants.{Ftrace as FtraceName}
 use Rattle.zone_spec.specs.Reading.{ZoneReading}
 use Rattle.zone_spec.specs.Records.{Saved, Listed, is_of, found}
 

@@ -1,6 +1,8 @@
 -- The line that a dump begins with: `====`, seconds, `.`, microseconds, `-D` or `-C`, and a newline
 -- (fs/pstore/ram.c)
-use Rattle.std.specs.Prelude.{ℕ, ◌+◌, ◌-◌, ◌*◌, ◌^◌, Bool, true, false, ◌&&◌, if◌then◌else◌, nat_lt, nat_le, is_some, List, [], ◌∷◌, ◌++◌, length, take, drop, take_while, fold, codes, decimal, bytes_eq, Option, Some, None}
+use Rattle.std.specs.Prelude.{ℕ, ◌+◌, ◌-◌, ◌*◌, ◌^◌, Bool, true, false, ◌&&◌, if◌then◌else◌, nat_lt, nat_le, is_some}
+use Rattle.std.specs.Prelude.{List, [], ◌∷◌, ◌++◌, length, take, drop, take_while, fold, codes, decimal, bytes_eq}
+use Rattle.std.specs.Prelude.{Option, Some, None}
 use Rattle.zone_spec.specs.declared.Time.{Time}
 use Rattle.zone_spec.specs.declared.TimeLine.{TimeLine}
 

@@ -1,6 +1,6 @@
 -- An append to a ring that was not full, cut among its data bytes before its first header, leaves
--- what the ring stood for. By `Standing`.
-use Rattle.blk_laws.proofs.Standing.{cut-append}
+-- what the ring stood for. By `RingLists`.
+use Rattle.blk_laws.proofs.RingLists.{cut-append}
 use Rattle.blk_laws.proofs.cut_append_lists_before.Goals as goal
 
 pub returns : goal.returns

@@ -1,6 +1,6 @@
 -- Every loading lists the reading of the store's bytes, whatever was done before it. By
--- `Standing`.
-use Rattle.blk_laws.proofs.Standing.{loading}
+-- `RingLists`.
+use Rattle.blk_laws.proofs.RingLists.{loading}
 use Rattle.blk_laws.proofs.loading_lists_reading.Goals as goal
 
 pub returns : goal.returns

@@ -1,6 +1,6 @@
 -- A line that leaves a dump zone alone keeps what the zone was told; a stop and a boot do too. By
--- `Keeping`.
-use Rattle.crash_laws.proofs.Keeping.{lines_keep}
+-- `DumpZoneStays`.
+use Rattle.crash_laws.proofs.DumpZoneStays.{lines_keep}
 use Rattle.crash_laws.proofs.lines_keep_told.Goals as goal
 
 pub returns : goal.returns

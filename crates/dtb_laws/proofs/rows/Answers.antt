@@ -1,6 +1,7 @@
 -- Eight worked trees: one node, the tree cut off or with a wrong token, and each rule of the
--- kernel for numbers and status. By `Worked`.
-use Rattle.dtb_laws.proofs.Worked.{small_row, cut_row, token_row, first_cell_row, old_board_row, large_row, short_row, status_row}
+-- kernel for numbers and status. By `RowValues`.
+use Rattle.dtb_laws.proofs.RowValues.{small_row, cut_row, token_row, first_cell_row, old_board_row, large_row}
+use Rattle.dtb_laws.proofs.RowValues.{short_row, status_row}
 use Rattle.dtb_laws.proofs.rows.Goals as goal
 
 pub returns-clause-small : goal.returns-clause-small

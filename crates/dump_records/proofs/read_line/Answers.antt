@@ -3,7 +3,9 @@ use Rattle.std.proofs.Common.{◌≡◌, ◌+◌, drop, sym, ◌∙◌, arith, S
 use Rattle.std.specs.Prelude.{codes}
 use Rattle.zone_spec.specs.TimeLines.{digits_of}
 use Rattle.dump_records.specs.Parts.{number_at}
-use Rattle.dump_records.proofs.Lines.{IsSecs, IsMicros, none-mark, answer-some, answer-no_ending, answer-no_micros, answer-no_point, answer-large, answer-no_secs, micros_small, number_cut, front_cut, ending_cut}
+use Rattle.dump_records.proofs.Lines.{IsSecs, IsMicros, none-mark, answer-some, answer-no_ending, answer-no_micros}
+use Rattle.dump_records.proofs.Lines.{answer-no_point, answer-large, answer-no_secs, micros_small, number_cut}
+use Rattle.dump_records.proofs.Lines.{front_cut, ending_cut}
 use Rattle.dump_records.proofs.read_line.Goals as goal
 use Rattle.dump_records.proofs.read_line.Goals.{After-leading_number, After-leading_number-2, After-line_end}
 

@@ -1,7 +1,7 @@
 -- The earlier of two entries, or what is left of one zone, comes next. For `merge`.
 use Rattle.std.proofs.Common.{◌≡◌, ◌<◌, ◌++◌, ◌-◌, length, drop, take, ap, ap₂, ◌∙◌, arith, List}
 use Rattle.ftrace_zone.specs.declared.Entry.{Entry}
-use Rattle.ftrace_zone.proofs.Merging.{IsMerged-later, IsMerged-earlier, IsMerged-end, cut, merge_of}
+use Rattle.ftrace_zone.proofs.MergeSteps.{IsMerged-later, IsMerged-earlier, IsMerged-end, cut, merge_of}
 use Rattle.ftrace_zone.proofs.merge.Goals as goal
 use Rattle.ftrace_zone.proofs.merge.Goals.{then-loop-i-test+else-j-right, else-loop-i-test}
 

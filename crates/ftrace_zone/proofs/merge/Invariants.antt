@@ -1,7 +1,7 @@
 -- The merged entries are those of both fronts, and the places lie in the lists. For the loop of
 -- `merge`.
 use Rattle.std.proofs.Common.{length, ◌+◌, ◌-◌, ◌≤◌}
-use Rattle.ftrace_zone.proofs.Merging.{IsMerged}
+use Rattle.ftrace_zone.proofs.MergeSteps.{IsMerged}
 use Rattle.ftrace_zone.proofs.merge.Given as goal
 
 abbrev pub invariant-loop-i : goal.invariant-loop-i

@@ -1,6 +1,6 @@
 -- The headline: the next boot reads the last bytes that a session's operations wrote to each zone,
--- and reports cut calls exactly. By `Told`.
-use Rattle.history_laws.proofs.Told.{headline as law, cuts_are_reported}
+-- and reports cut calls exactly. By `WrittenLogs`.
+use Rattle.history_laws.proofs.WrittenLogs.{headline as law, cuts_are_reported}
 use Rattle.history_laws.proofs.headline.Goals as goal
 
 pub returns-clause-written : goal.returns-clause-written

@@ -1,9 +1,11 @@
 -- A newline in the front, in the back or in neither is the first of both joined. For
 -- `newline_from`.
-use Rattle.std.proofs.Common.{ℕ, List, Option, Some, None, take, ◌+◌, ◌-◌, ◌≤◌, ◌++◌, length, drop, arith, subst, sym, ◌≡◌}
+use Rattle.std.proofs.Common.{ℕ, List, Option, Some, None, take, ◌+◌, ◌-◌, ◌≤◌, ◌++◌, length, drop, arith, subst, sym}
+use Rattle.std.proofs.Common.{◌≡◌}
 use Rattle.std.proofs.lemmas.List.{length-append, length-drop, take_rest}
 use Rattle.memchr.specs.Find.{IsFirst, Nowhere}
-use Rattle.kmsg_dump.proofs.Search.{IsNewline, front_lies, back_lies, whole_back_lies, found, missed, joined, joined_none}
+use Rattle.kmsg_dump.proofs.Search.{IsNewline, front_lies, back_lies, whole_back_lies, found, missed, joined}
+use Rattle.kmsg_dump.proofs.Search.{joined_none}
 use Rattle.kmsg_dump.proofs.newline_from.Goals as goal
 
 -- a slice to the end is the rest

@@ -1,5 +1,5 @@
--- The logs that a boot finds are of bytes, and of one at least. By `Saved`.
-use Rattle.move_laws.proofs.Saved.{boots_have_bytes as law}
+-- The logs that a boot finds are of bytes, and of one at least. By `SavedLogs`.
+use Rattle.move_laws.proofs.SavedLogs.{boots_have_bytes as law}
 use Rattle.move_laws.proofs.boots_have_bytes.Goals as goal
 
 pub returns : goal.returns

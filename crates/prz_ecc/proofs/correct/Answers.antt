@@ -1,7 +1,7 @@
 -- Without parity bytes stand as they should be: nothing is corrected, and the answer is clean. For
 -- `correct`.
 use Rattle.std.proofs.Common.{◌++◌}
-use Rattle.rs_decode.proofs.Decoding.{decoded_clean, fixes_clean}
+use Rattle.rs_decode.proofs.NearestFixes.{decoded_clean, fixes_clean}
 use Rattle.prz_ecc.proofs.Readings.{nearest-none, data-none, none_is}
 use Rattle.prz_ecc.proofs.correct.Goals as goal
 

@@ -5,7 +5,8 @@ ghost use Rattle.zone_spec.specs.Records.{Saved};
 ghost use Rattle.grammar_spec.specs.Printed.{zone_text};
 ghost use Rattle.prz_read.specs.Saving.{saved};
 ghost use Rattle.ramoops.specs.Reports.{cut_seen, report_seen};
-ghost use Rattle.script_spec.specs.Texts.{newline, state_text, verdict_text, boot_line, call_text, seen_text, run_text, runs_text, cut_line, cut_text, zone_lines, boot_text, part_text};
+ghost use Rattle.script_spec.specs.Texts.{newline, state_text, verdict_text, boot_line, call_text, seen_text, run_text};
+ghost use Rattle.script_spec.specs.Texts.{runs_text, cut_line, cut_text, zone_lines, boot_text, part_text};
 
 use prz_read::{Logs, Reading, State};
 use ramoops::{CallKind, Cut, HeaderSeen, Report, Verdict, ZoneReport};

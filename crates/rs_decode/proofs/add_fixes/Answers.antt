@@ -1,12 +1,13 @@
 -- One fix more adds its terms, and in the end the values are those of the fixed word. For
 -- `add_fixes`.
-use Rattle.std.proofs.Common.{◌≡◌, ◌+◌, ◌-◌, ◌<◌, ◌≤◌, ℕ, suc, refl, ap, ◌∙◌, arith, List, ◌∷◌, drop, drop-cons, length, get_or}
+use Rattle.std.proofs.Common.{◌≡◌, ◌+◌, ◌-◌, ◌<◌, ◌≤◌, ℕ, suc, refl, ap, ◌∙◌, arith, List, ◌∷◌, drop, drop-cons, length}
+use Rattle.std.proofs.Common.{get_or}
 use Rattle.std.proofs.lemmas.Grind.{common_steps}
 use Rattle.std.proofs.lemmas.List.{drop_all}
 use Rattle.code_spec.specs.Field.{gf_add, gf_pow}
 use Rattle.rs_decode.specs.declared.Fix.{Fix}
 use Rattle.rs_decode.specs.Fixes.{fix_sum}
-use Rattle.rs_decode.proofs.Applied.{sum_step, sum_end}
+use Rattle.rs_decode.proofs.FixedWords.{sum_step, sum_end}
 use Rattle.rs_decode.proofs.add_fixes.Goals as goal
 
 pub loop-fix-preserved : goal.loop-fix-preserved

@@ -1,6 +1,7 @@
 -- The logarithm goes up by the power each turn, so each value gets its own term. For the loop of
 -- `add_terms`.
-use Rattle.std.proofs.Common.{◌≢◌, ◌<◌, length, refl, sym, ap, ap₂, ◌∙◌, arith, get_or-set_other, get_or-set_same, below_more}
+use Rattle.std.proofs.Common.{◌≢◌, ◌<◌, length, refl, sym, ap, ap₂, ◌∙◌, arith, get_or-set_other, get_or-set_same}
+use Rattle.std.proofs.Common.{below_more}
 use Rattle.code_spec.specs.Field.{gf_add, gf_mul, gf_pow}
 use Rattle.code_laws.proofs.Ring.{mul_one, pow_zero, pow_below}
 use Rattle.decoder_laws.proofs.Powers.{pow_term_step}

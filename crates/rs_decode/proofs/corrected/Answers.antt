@@ -1,6 +1,7 @@
 -- A near codeword is damage that the candidate answers, so no candidate is no codeword, and a
 -- mended word is the near one. For `corrected`.
-use Rattle.std.proofs.Common.{◌≡◌, ℕ, ◌+◌, ◌/◌, ◌≤◌, ◌<◌, Bool, IsTrue, ◌↔◌, List, ◌++◌, length, get_or, take, length-append, arith, sym, ap, ◌∙◌, subst}
+use Rattle.std.proofs.Common.{◌≡◌, ℕ, ◌+◌, ◌/◌, ◌≤◌, ◌<◌, Bool, IsTrue, ◌↔◌, List, ◌++◌, length, get_or, take}
+use Rattle.std.proofs.Common.{length-append, arith, sym, ap, ◌∙◌, subst}
 use Rattle.rs_encode.proofs.Steps.{symbols_each}
 use Rattle.code_spec.specs.Field.{gf_pow}
 use Rattle.code_laws.proofs.Symbols.{HasRoots, Symbols}
@@ -10,10 +11,10 @@ use Rattle.decoder_laws.specs.Damage.{IsDamage, IsWithin}
 use Rattle.rs_decode.specs.Fixes.{applied, fixes_between, fixes_from}
 use Rattle.rs_decode.specs.declared.Fix.{Fix}
 use Rattle.decoder_laws.proofs.Damage.{damage_of, none_at_zero, values_cut, positive}
-use Rattle.rs_decode.proofs.Applied.{applied_near, apply_fixes_between}
+use Rattle.rs_decode.proofs.FixedWords.{applied_near, apply_fixes_between}
 use Rattle.code_laws.proofs.Steps.{symbols-append}
 use Rattle.decoder_laws.proofs.Nearest.{nearest_of_within}
-use Rattle.rs_decode.proofs.Decoding.{true_false, within_none}
+use Rattle.rs_decode.proofs.NearestFixes.{true_false, within_none}
 use Rattle.rs_decode.proofs.corrected.Goals as goal
 
 -- a near codeword is damage that the candidate answers

@@ -1,7 +1,7 @@
 -- Within half the parity the nearest codeword is the one that is decoded. For `decode_excess`.
 use Rattle.std.proofs.Common.{ℕ, List, ◌≡◌, ◌++◌, ◌/◌, length, take, unwrap_or, ap, refl, ◌∙◌, Option}
 use Rattle.rs_decode.specs.Decoding.{decoded_by, fixes_by}
-use Rattle.rs_decode.proofs.Decoding.{within_half}
+use Rattle.rs_decode.proofs.NearestFixes.{within_half}
 use Rattle.rs_decode.proofs.decode_excess.Goals as goal
 
 pub returns-clause-answer : goal.returns-clause-answer

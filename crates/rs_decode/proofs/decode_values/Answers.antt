@@ -6,8 +6,9 @@ use Rattle.decoder_laws.specs.Damage.{IsWithin}
 use Rattle.rs_decode.specs.Fixes.{applied}
 use Rattle.rs_decode.specs.declared.Fix.{Fix}
 use Rattle.rs_decode.specs.Decoding.{within}
-use Rattle.rs_decode.proofs.Applied.{length-fixes_between, take-applied}
-use Rattle.rs_decode.proofs.Decoding.{within_codeword, within_near, decoded_clean, decoded_fixed, decoded_bad, data_clean, data_fixed, data_bad, fixes_clean, fixes_fixed, fixes_bad}
+use Rattle.rs_decode.proofs.FixedWords.{length-fixes_between, take-applied}
+use Rattle.rs_decode.proofs.NearestFixes.{within_codeword, within_near, decoded_clean, decoded_fixed, decoded_bad}
+use Rattle.rs_decode.proofs.NearestFixes.{data_clean, data_fixed, data_bad, fixes_clean, fixes_fixed, fixes_bad}
 use Rattle.rs_decode.proofs.decode_values.Goals as goal
 
 pub returns-then-not-damaged-clause-answer : goal.returns-then-not-damaged-clause-answer

@@ -1,9 +1,10 @@
 -- A block has the values of its places; enough roots, or those of all places, are the roots. For `few_roots`.
-use Rattle.std.proofs.Common.{◌≡◌, ◌≤◌, ◌+◌, ◌-◌, ◌*◌, ◌/◌, ◌%◌, ◌++◌, [], ℕ, List, length, get_or, get_or-take, length-take, take, min, refl, ap, ap₂, ◌∙◌, arith, inl, inr}
+use Rattle.std.proofs.Common.{◌≡◌, ◌≤◌, ◌+◌, ◌-◌, ◌*◌, ◌/◌, ◌%◌, ◌++◌, [], ℕ, List, length, get_or, get_or-take}
+use Rattle.std.proofs.Common.{length-take, take, min, refl, ap, ap₂, ◌∙◌, arith, inl, inr}
 use Rattle.code_spec.specs.Field.{gf_mul, gf_pow}
 use Rattle.decoder_laws.specs.Chien.{roots_of}
 use Rattle.rs_decode.specs.Fixes.{AreValues}
-use Rattle.rs_decode.proofs.Finding.{moved_term, values_left, enough}
+use Rattle.rs_decode.proofs.RootSearch.{moved_term, values_left, enough}
 use Rattle.rs_decode.proofs.few_roots.Goals as goal
 use Rattle.rs_decode.proofs.few_roots.Goals.{then-count-degree-2, else-count-degree-2}
 

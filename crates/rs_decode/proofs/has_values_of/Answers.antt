@@ -3,7 +3,7 @@
 use Rattle.std.proofs.Common.{◌∙◌, arith}
 use Rattle.rs_encode.proofs.Steps.{symbols_each}
 use Rattle.decoder_laws.proofs.Nearest.{no_excess, codeword_excess, excess_value}
-use Rattle.rs_decode.proofs.Decoding.{true_false}
+use Rattle.rs_decode.proofs.NearestFixes.{true_false}
 use Rattle.rs_decode.proofs.has_values_of.Goals as goal
 
 pub returns-then-all_zero-clause-clean : goal.returns-then-all_zero-clause-clean

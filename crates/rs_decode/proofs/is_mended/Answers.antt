@@ -5,7 +5,7 @@ use Rattle.code_spec.specs.Field.{gf_add, gf_pow}
 use Rattle.code_spec.specs.Code.{value_of}
 use Rattle.rs_decode.specs.Fixes.{AllInside, fix_sum}
 use Rattle.rs_decode.specs.declared.Fix.{Fix}
-use Rattle.rs_decode.proofs.Applied.{AreSums, codeword_from_sums, sums_of_codeword}
+use Rattle.rs_decode.proofs.FixedWords.{AreSums, codeword_from_sums, sums_of_codeword}
 use Rattle.rs_decode.proofs.is_mended.Goals as goal
 
 sums_are : (m p vs sums : List ℕ) (fs : List Fix) → AllInside (length m + length p) fs → length sums ≡ length p

@@ -1,5 +1,6 @@
 -- The fixed word has its parity exactly when all its values are zero. For `is_mended_by_parity`.
-use Rattle.std.proofs.Common.{◌≡◌, ℕ, List, ◌++◌, length, take, drop, take-append-drop, length-drop, length-append, arith, sym, ap, ap₂, ◌∙◌, subst, take_at}
+use Rattle.std.proofs.Common.{◌≡◌, ℕ, List, ◌++◌, length, take, drop, take-append-drop, length-drop, length-append}
+use Rattle.std.proofs.Common.{arith, sym, ap, ap₂, ◌∙◌, subst, take_at}
 use Rattle.code_laws.proofs.Symbols.{HasRoots}
 use Rattle.code_laws.proofs.Parity.{roots_of, codeword_of}
 use Rattle.rs_decode.specs.Fixes.{applied}

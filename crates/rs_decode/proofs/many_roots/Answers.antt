@@ -1,11 +1,13 @@
 -- A place where the locator is zero is one root more, any other none; a block of 64 places has its
 -- values at hand. For `many_roots`.
-use Rattle.std.proofs.Common.{◌≡◌, ℕ, ◌+◌, ◌-◌, ◌*◌, ◌/◌, ◌%◌, ◌<◌, ◌≢◌, List, ◌++◌, ◌∷◌, [], length, get_or, arith, sym, ap, ◌∙◌, suc}
+use Rattle.std.proofs.Common.{◌≡◌, ℕ, ◌+◌, ◌-◌, ◌*◌, ◌/◌, ◌%◌, ◌<◌, ◌≢◌, List, ◌++◌, ◌∷◌, [], length, get_or, arith}
+use Rattle.std.proofs.Common.{sym, ap, ◌∙◌, suc}
 use Rattle.code_spec.specs.Field.{gf_pow}
 use Rattle.code_spec.specs.Code.{value_of}
 use Rattle.decoder_laws.proofs.Chien.{root_taken, root_none}
 use Rattle.rs_decode.proofs.many_roots.Goals as goal
-use Rattle.rs_decode.proofs.many_roots.Goals.{then-place-eq0, else-place-eq0, then-values-place-eq0, else-values-place-eq0}
+use Rattle.rs_decode.proofs.many_roots.Goals.{then-place-eq0, else-place-eq0, then-values-place-eq0}
+use Rattle.rs_decode.proofs.many_roots.Goals.{else-values-place-eq0}
 
 -- places of one block
 same_block : (i : ℕ) → (i + 1) % 64 ≢ 0 → i / 64 * 64 ≡ (i + 1) / 64 * 64

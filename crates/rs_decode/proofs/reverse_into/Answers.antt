@@ -1,5 +1,6 @@
 -- The symbols after 16 zeros are the word's, last one first. For `reverse_into`.
-use Rattle.std.proofs.Common.{◌≡◌, ℕ, List, length, reverse, drop, sym, ◌∙◌, arith, ext_get_or, get_or-drop, length-drop}
+use Rattle.std.proofs.Common.{◌≡◌, ℕ, List, length, reverse, drop, sym, ◌∙◌, arith, ext_get_or, get_or-drop}
+use Rattle.std.proofs.Common.{length-drop}
 use Rattle.std.proofs.lemmas.List.{length-reverse, get_or-reverse}
 use Rattle.rs_decode.proofs.reverse_into.Goals as goal
 

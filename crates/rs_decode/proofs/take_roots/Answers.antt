@@ -1,8 +1,9 @@
 -- A value of zero is one root more, any other none. For the loop of `take_roots`.
-use Rattle.std.proofs.Common.{◌≡◌, ◌<◌, ◌+◌, ◌-◌, ◌++◌, ℕ, List, length, take, set, suc, sym, ap, ◌∙◌, arith, length-set}
+use Rattle.std.proofs.Common.{◌≡◌, ◌<◌, ◌+◌, ◌-◌, ◌++◌, ℕ, List, length, take, set, suc, sym, ap, ◌∙◌, arith}
+use Rattle.std.proofs.Common.{length-set}
 use Rattle.std.proofs.lemmas.List.{take_more_set, take-set}
 use Rattle.decoder_laws.specs.Chien.{roots_of}
-use Rattle.rs_decode.proofs.Finding.{root_found, root_passed}
+use Rattle.rs_decode.proofs.RootSearch.{root_found, root_passed}
 use Rattle.rs_decode.proofs.take_roots.Goals as goal
 use Rattle.rs_decode.proofs.take_roots.Goals.{then-values-k-eq0, else-values-k-eq0}
 

@@ -1,5 +1,6 @@
 -- One symbol more, divided by the generator, keeps front and rest a codeword. For `bare_parity`.
-use Rattle.std.proofs.Common.{◌≡◌, ℕ, ◌+◌, ◌-◌, length-drop, ◌++◌, List, length, take, sym, ap, ◌∙◌, subst, arith, drop, get_or}
+use Rattle.std.proofs.Common.{◌≡◌, ℕ, ◌+◌, ◌-◌, length-drop, ◌++◌, List, length, take, sym, ap, ◌∙◌, subst, arith, drop}
+use Rattle.std.proofs.Common.{get_or}
 use Rattle.std.proofs.lemmas.List.{take_all, length-replicate}
 use Rattle.list_laws.proofs.Elements.{get_or-replicate_default}
 use Rattle.code_spec.specs.Field.{gf_add, gf_mul}

@@ -5,7 +5,7 @@ use Rattle.death_spec.specs.declared.Mark.TheVariants.{Processor, Place, Trace}
 use Rattle.death_spec.specs.Telling.{is_of_oops}
 use Rattle.death_spec.specs.Lines.{lines_from}
 use Rattle.death_spec.specs.Reports.{first_of}
-use Rattle.death.proofs.Listed.{in_report, head_more, head_ended, head_none}
+use Rattle.death.proofs.MarkedLines.{in_report, head_more, head_ended, head_none}
 use Rattle.death.proofs.reports.heads.Goals as goal
 
 pub lines-init : goal.lines-init

@@ -4,7 +4,7 @@ use Rattle.std.specs.Option.{option_or}
 use Rattle.death_spec.specs.declared.Mark.TheVariants.{Processor, Place, Trace}
 use Rattle.death_spec.specs.Lines.{lines_from}
 use Rattle.death_spec.specs.Reports.{first_of, report}
-use Rattle.death.proofs.Listed.{in_report}
+use Rattle.death.proofs.MarkedLines.{in_report}
 use Rattle.death.proofs.reports.heads.Given as goal
 
 abbrev pub invariant-lines : goal.invariant-lines

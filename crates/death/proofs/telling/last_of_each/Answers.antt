@@ -5,7 +5,7 @@ use Rattle.death_spec.specs.declared.Mark.TheVariants.{Panic, Warning}
 use Rattle.death_spec.specs.Marks.{is_mark}
 use Rattle.death_spec.specs.Lines.{lines_from, kind}
 use Rattle.death_spec.specs.Telling.{last_of, last_opening, opens, open_behind}
-use Rattle.death.proofs.Listed.{or_none, last_more, last_none, opening_more, opening_none}
+use Rattle.death.proofs.MarkedLines.{or_none, last_more, last_none, opening_more, opening_none}
 use Rattle.death.proofs.telling.last_of_each.Goals as goal
 
 pub lines-init : goal.lines-init

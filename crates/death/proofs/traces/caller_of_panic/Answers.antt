@@ -2,7 +2,7 @@
 -- `caller_of_panic`.
 use Rattle.std.proofs.Common.{ap, sym, ◌∙◌}
 use Rattle.death_spec.specs.Traces.{entries, caller_of_panic}
-use Rattle.death.proofs.Traced.{panic_yes, panic_no, panic_none}
+use Rattle.death.proofs.TraceEntries.{panic_yes, panic_no, panic_none}
 use Rattle.death.proofs.traces.caller_of_panic.Goals as goal
 
 pub returns-then-is_panic : goal.returns-then-is_panic

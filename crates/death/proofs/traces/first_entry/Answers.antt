@@ -2,7 +2,7 @@
 -- `first_entry`.
 use Rattle.std.proofs.Common.{◌≡◌, ◌∷◌, [], ap, sym, ◌∙◌, arith}
 use Rattle.death_spec.specs.Traces.{is_entry, is_of_trace, entries, first}
-use Rattle.death.proofs.Traced.{entry_yes, entry_no, entry_end, entry_past}
+use Rattle.death.proofs.TraceEntries.{entry_yes, entry_no, entry_end, entry_past}
 use Rattle.death.proofs.traces.first_entry.Goals as goal
 
 -- an entry at a line

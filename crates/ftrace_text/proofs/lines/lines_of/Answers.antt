@@ -5,7 +5,7 @@ use Rattle.std.proofs.lemmas.List.{take_more, append-nil}
 use Rattle.std.proofs.lemmas.Grind.{flat_map-append}
 use Rattle.ftrace_zone.specs.declared.Entry.{Entry}
 use Rattle.ftrace_zone.specs.EntryBytes.{entry_bytes}
-use Rattle.trace_spec.specs.Lines.{line_text}
+use Rattle.ftrace_spec.specs.Lines.{line_text}
 use Rattle.ftrace_text.proofs.Entries.{map-append}
 use Rattle.ftrace_text.proofs.lines.lines_of.Goals as goal
 

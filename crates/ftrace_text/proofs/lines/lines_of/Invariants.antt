@@ -2,7 +2,7 @@
 use Rattle.std.proofs.Common.{◌≡◌, take, map}
 use Rattle.std.specs.Prelude.{flat_map}
 use Rattle.ftrace_zone.specs.EntryBytes.{entry_bytes}
-use Rattle.trace_spec.specs.Lines.{line_text}
+use Rattle.ftrace_spec.specs.Lines.{line_text}
 use Rattle.ftrace_text.proofs.lines.lines_of.Given as goal
 
 abbrev pub invariant-loop-entry : goal.invariant-loop-entry

@@ -1,5 +1,6 @@
 -- One coefficient of `a` more is one multiple of `b` more, one place on. For `product`.
-use Rattle.std.proofs.Common.{◌≡◌, ℕ, ◌+◌, ◌-◌, ◌<◌, List, ◌++◌, ◌∷◌, [], length, get_or, take, drop, sym, ap, ◌∙◌, arith, length-append, take_all}
+use Rattle.std.proofs.Common.{◌≡◌, ℕ, ◌+◌, ◌-◌, ◌<◌, List, ◌++◌, ◌∷◌, [], length, get_or, take, drop, sym, ap, ◌∙◌}
+use Rattle.std.proofs.Common.{arith, length-append, take_all}
 use Rattle.std.proofs.lemmas.List.{length-replicate, take_more}
 use Rattle.code_spec.specs.Field.{gf_add, gf_mul}
 use Rattle.decoder_laws.specs.Polynomials.{poly}

@@ -1,7 +1,7 @@
 -- A word of the line is read, and `--` ends them. For `kernel_words`.
 use Rattle.std.proofs.Common.{ap, sym, ◌∙◌, ◌≡◌, bytes_eq, codes, true, false, Bool}
 use Rattle.kernel_line.specs.Line.{underscored}
-use Rattle.kernel_line.proofs.Adding.{none_read, ended, word_read, last_word_read}
+use Rattle.kernel_line.proofs.WordLoop.{none_read, ended, word_read, last_word_read}
 use Rattle.kernel_line.proofs.words.kernel_words.Goals as goal
 
 pub words-init : goal.words-init

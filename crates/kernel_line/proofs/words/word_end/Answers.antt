@@ -1,9 +1,12 @@
 -- White space outside quotes ends the word, a quote turns it, and any other byte belongs to it.
 -- For `word_end`.
-use Rattle.std.proofs.Common.{◌≡◌, List, length, take, drop, ℕ, ◌==◌, cond, ◌∷◌, [], ◌+◌, false, arith, sym, ◌∙◌, subst, Bool}
+use Rattle.std.proofs.Common.{◌≡◌, List, length, take, drop, ℕ, ◌==◌, cond, ◌∷◌, [], ◌+◌, false, arith, sym, ◌∙◌, subst}
+use Rattle.std.proofs.Common.{Bool}
 use Rattle.kernel_line.specs.Line.{words_from}
-use Rattle.kernel_line.proofs.Lines.{fronted, none_read, more_read, ended_within, ended_behind, within_quotes, not_white, turns, stays}
-use Rattle.kernel_line.proofs.words.word_end.Goals.{else-is_white-via-then-is_white+else-not-is_within, else-is_white-via-else-is_white, then-b-eq34, else-b-eq34}
+use Rattle.kernel_line.proofs.Lines.{fronted, none_read, more_read, ended_within, ended_behind, within_quotes}
+use Rattle.kernel_line.proofs.Lines.{not_white, turns, stays}
+use Rattle.kernel_line.proofs.words.word_end.Goals.{else-is_white-via-then-is_white+else-not-is_within}
+use Rattle.kernel_line.proofs.words.word_end.Goals.{else-is_white-via-else-is_white, then-b-eq34, else-b-eq34}
 use Rattle.kernel_line.proofs.words.word_end.Goals as goal
 
 pub bytes-init : goal.bytes-init

@@ -7,7 +7,7 @@ use Rattle.kmsg_spec.specs.declared.Reason.{Reason}
 use Rattle.kmsg_spec.specs.Bodies.{bytes_of, heading, last_lines, body}
 use Rattle.kmsg_dump.specs.Kept.{IsLine, Keeps}
 use Rattle.kmsg_dump.specs.Starts.{IsFirstStart}
-use Rattle.kmsg_dump.proofs.Last.{all_of_last, in_room}
+use Rattle.kmsg_dump.proofs.LastLines.{all_of_last, in_room}
 use Rattle.kmsg_dump.proofs.Starts.{from_start}
 use Rattle.kmsg_dump.proofs.KLog.body.Goals as goal
 

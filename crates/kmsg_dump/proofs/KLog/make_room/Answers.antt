@@ -4,7 +4,7 @@ use Rattle.circular_buffer.specs.Buffer.{Buffer, buffer, keep_last}
 use Rattle.kmsg_spec.specs.Bodies.{bytes_of, last_lines}
 use Rattle.kmsg_dump.specs.Kept.{IsLine, Keeps}
 use Rattle.kmsg_dump.specs.Starts.{IsFirstStart}
-use Rattle.kmsg_dump.proofs.Last.{all_fit, all_of_last, of_last}
+use Rattle.kmsg_dump.proofs.LastLines.{all_fit, all_of_last, of_last}
 use Rattle.kmsg_dump.proofs.Starts.{from_start}
 use Rattle.kmsg_dump.proofs.KLog.make_room.Goals as goal
 

@@ -3,7 +3,7 @@ use Rattle.std.proofs.Common.{ap, sym, ◌∙◌}
 use Rattle.std.proofs.lemmas.List.Elements.{All-nil}
 use Rattle.kmsg_spec.specs.Bodies.{bytes_of}
 use Rattle.kmsg_dump.specs.Kept.{IsLine}
-use Rattle.kmsg_dump.proofs.Last.{none_of_none}
+use Rattle.kmsg_dump.proofs.LastLines.{none_of_none}
 use Rattle.kmsg_dump.proofs.KLog.new.Goals as goal
 
 pub returns-clause-kept : goal.returns-clause-kept

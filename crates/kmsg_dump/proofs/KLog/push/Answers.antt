@@ -1,11 +1,12 @@
 -- A line pushed is the last of those kept; one that doesn't fit changes nothing. For `KLog::push`.
-use Rattle.std.proofs.Common.{◌≡◌, ℕ, ◌+◌, ◌-◌, ◌≤◌, ◌++◌, ◌∷◌, [], List, length, drop, refl, subst, ap, sym, ◌∙◌, arith}
+use Rattle.std.proofs.Common.{◌≡◌, ℕ, ◌+◌, ◌-◌, ◌≤◌, ◌++◌, ◌∷◌, [], List, length, drop, refl, subst, ap, sym, ◌∙◌}
+use Rattle.std.proofs.Common.{arith}
 use Rattle.std.proofs.lemmas.List.{length-append, append_assoc}
 use Rattle.std.proofs.lemmas.List.Elements.{All-push}
 use Rattle.circular_buffer.specs.Buffer.{Buffer, buffer, keep_last}
 use Rattle.kmsg_spec.specs.Bodies.{newline, ended, bytes_of, last_lines}
 use Rattle.kmsg_dump.specs.Kept.{IsLine, Keeps}
-use Rattle.kmsg_dump.proofs.Last.{bytes_more, one_more, last_lines_fit}
+use Rattle.kmsg_dump.proofs.LastLines.{bytes_more, one_more, last_lines_fit}
 use Rattle.kmsg_dump.proofs.KLog.push.Goals as goal
 
 abbrev more : Buffer ℕ → List ℕ → Buffer ℕ

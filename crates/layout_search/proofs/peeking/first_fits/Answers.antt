@@ -4,7 +4,7 @@ use Rattle.std.proofs.Common.{◌≡◌, List, ℕ, Some, sym, subst}
 use Rattle.std.specs.Prelude.{slice_get}
 use Rattle.zone_spec.specs.declared.Zone.{Zone}
 use Rattle.layout_search.specs.Looks.{IsInside}
-use Rattle.layout_search.proofs.Inside.{inside}
+use Rattle.layout_search.proofs.ZonesInImage.{inside}
 use Rattle.layout_search.proofs.peeking.first_fits.Goals as goal
 
 pub is_first_or_unlike-requires : goal.is_first_or_unlike-requires

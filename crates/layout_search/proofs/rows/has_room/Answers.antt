@@ -2,7 +2,7 @@
 -- processors, the parity and the tag. For `has_room`.
 use Rattle.std.proofs.Common.{◌∙◌, sym}
 use Rattle.std.proofs.lemmas.Bool.{lt-ltb}
-use Rattle.layout_search.proofs.Refused.{too_large, no_room}
+use Rattle.layout_search.proofs.CandidateFaults.{too_large, no_room}
 use Rattle.layout_search.proofs.rows.has_room.Goals as goal
 
 pub returns-then-c-gt-MOST_MEMORY-clause-refused : goal.returns-then-c-gt-MOST_MEMORY-clause-refused

@@ -5,7 +5,7 @@ use Rattle.layout_spec.specs.declared.Tally.{Tally}
 use Rattle.layout_spec.specs.Laid.{zones_of}
 use Rattle.layout_spec.specs.Marks.{marks}
 use Rattle.layout_spec.specs.Order.{faults}
-use Rattle.layout_search.proofs.Answered.{few_faults, gives_up, tally_faults}
+use Rattle.layout_search.proofs.SearchAnswers.{few_faults, gives_up, tally_faults}
 use Rattle.layout_search.proofs.searching.find_rival.Goals as goal
 
 pub sweep-requires-clause-aim : goal.sweep-requires-clause-aim

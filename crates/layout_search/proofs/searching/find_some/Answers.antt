@@ -1,7 +1,7 @@
 -- A search for some layout that ends with none has tried all, so there is none. For `find_some`.
 use Rattle.std.proofs.Common.{◌≡◌, ◌<◌, ◌^◌, refl, arith}
 use Rattle.layout_spec.specs.Marks.{marks}
-use Rattle.layout_search.proofs.Answered.{all_first, nothing, some_by}
+use Rattle.layout_search.proofs.SearchAnswers.{all_first, nothing, some_by}
 use Rattle.layout_search.proofs.searching.find_some.Goals as goal
 
 pub returns : goal.returns

@@ -7,7 +7,7 @@ use Rattle.layout_spec.specs.declared.Candidate.{Candidate}
 use Rattle.layout_spec.specs.Taken.{is_taken}
 use Rattle.layout_search.specs.Answers.{IsAnswer}
 use Rattle.layout_search.specs.declared.searching.Found.{Found}
-use Rattle.layout_search.proofs.Answered.{wholly}
+use Rattle.layout_search.proofs.SearchAnswers.{wholly}
 use Rattle.layout_search.proofs.searching.search.Goals as goal
 
 pub returns : goal.returns

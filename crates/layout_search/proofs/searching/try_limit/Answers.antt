@@ -1,7 +1,7 @@
 -- If the best has no more faults than the limit, no layout of the family is before it. Else all have more. For
 -- `try_limit`.
 use Rattle.std.proofs.Common.{refl}
-use Rattle.layout_search.proofs.Answered.{done, none_left}
+use Rattle.layout_search.proofs.SearchAnswers.{done, none_left}
 use Rattle.layout_search.proofs.searching.try_limit.Goals as goal
 
 pub returns-clause-first : goal.returns-clause-first

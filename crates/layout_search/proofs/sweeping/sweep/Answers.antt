@@ -1,5 +1,5 @@
 -- With the candidates of each memory size settled, every candidate is settled. For `sweep`.
-use Rattle.layout_search.proofs.Ahead.{all_settled}
+use Rattle.layout_search.proofs.BestSoFar.{all_settled}
 use Rattle.layout_search.proofs.sweeping.sweep.Goals as goal
 
 pub returns-clause-settled : goal.returns-clause-settled

@@ -4,7 +4,7 @@ use Rattle.std.proofs.Common.{◌≡◌, ◌∙◌, true, get_or, below_more, su
 use Rattle.std.specs.Prelude.{length}
 use Rattle.layout_spec.specs.Family.{is_one_of}
 use Rattle.layout_search.proofs.Members.{member_at}
-use Rattle.layout_search.proofs.Ahead.{console_next, consoles_done, ftraces_later, advances_trans}
+use Rattle.layout_search.proofs.BestSoFar.{console_next, consoles_done, ftraces_later, advances_trans}
 use Rattle.layout_search.specs.Tried.{FtracesSettled}
 use Rattle.layout_search.proofs.sweeping.try_consoles.Goals as goal
 

@@ -4,7 +4,7 @@ use Rattle.std.proofs.Common.{◌≡◌, ◌∙◌, true, get_or, below_more, su
 use Rattle.std.specs.Prelude.{length}
 use Rattle.layout_spec.specs.Family.{is_one_of}
 use Rattle.layout_search.proofs.Members.{member_at}
-use Rattle.layout_search.proofs.Ahead.{dump_next, dumps_done, consoles_later, advances_trans}
+use Rattle.layout_search.proofs.BestSoFar.{dump_next, dumps_done, consoles_later, advances_trans}
 use Rattle.layout_search.specs.Tried.{ConsolesSettled}
 use Rattle.layout_search.proofs.sweeping.try_dumps.Goals as goal
 

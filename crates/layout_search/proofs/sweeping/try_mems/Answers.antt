@@ -4,7 +4,7 @@ use Rattle.std.proofs.Common.{◌≡◌, ◌∙◌, true, get_or, below_more, su
 use Rattle.std.specs.Prelude.{length}
 use Rattle.layout_spec.specs.Family.{is_one_of}
 use Rattle.layout_search.proofs.Members.{member_at}
-use Rattle.layout_search.proofs.Ahead.{mem_next, mems_done, dumps_later, advances_trans}
+use Rattle.layout_search.proofs.BestSoFar.{mem_next, mems_done, dumps_later, advances_trans}
 use Rattle.layout_search.specs.Tried.{DumpsSettled}
 use Rattle.layout_search.proofs.sweeping.try_mems.Goals as goal
 

@@ -5,7 +5,7 @@ use Rattle.layout_spec.specs.Family.{is_one_of, tags_for}
 use Rattle.layout_search.specs.Tried.{IsSettled}
 use Rattle.layout_search.proofs.Tags.{layout_untagged}
 use Rattle.layout_search.proofs.Members.{member_at}
-use Rattle.layout_search.proofs.Ahead.{no_layout, advances_trans, later, family_of, tags_done}
+use Rattle.layout_search.proofs.BestSoFar.{no_layout, advances_trans, later, family_of, tags_done}
 use Rattle.layout_search.proofs.tagging.try_tags.Goals as goal
 
 pub returns-in_default-clause-settled : goal.returns-in_default-clause-settled

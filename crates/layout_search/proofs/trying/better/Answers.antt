@@ -1,7 +1,7 @@
 -- A key that is not before the best so far is not before one that replaces it, and no key is
 -- before itself. For `better`.
 use Rattle.std.proofs.Common.{◌∙◌, sym}
-use Rattle.layout_search.proofs.Ahead.{replaced}
+use Rattle.layout_search.proofs.BestSoFar.{replaced}
 use Rattle.layout_search.proofs.Keys.{not_before_self}
 use Rattle.layout_search.proofs.trying.better.Goals as goal
 

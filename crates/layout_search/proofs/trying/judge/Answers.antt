@@ -3,7 +3,7 @@
 use Rattle.std.proofs.Common.{◌∙◌, ap}
 use Rattle.layout_spec.specs.declared.Tally.{Tally}
 use Rattle.layout_spec.specs.Order.{key_by}
-use Rattle.layout_search.proofs.Inside.{inside}
+use Rattle.layout_search.proofs.ZonesInImage.{inside}
 use Rattle.layout_search.proofs.trying.judge.Goals as goal
 
 pub count_zones-requires-clause-inside : goal.count_zones-requires-clause-inside

@@ -2,7 +2,7 @@
 -- and the best stays sound. For `try_candidate`.
 use Rattle.std.proofs.Common.{sym, subst}
 use Rattle.layout_search.specs.Tried.{IsSound}
-use Rattle.layout_search.proofs.Ahead.{no_layout}
+use Rattle.layout_search.proofs.BestSoFar.{no_layout}
 use Rattle.layout_search.proofs.trying.try_candidate.Goals as goal
 
 pub returns-in_default-clause-settled : goal.returns-in_default-clause-settled

@@ -3,7 +3,7 @@
 use Rattle.std.proofs.Common.{◌≡◌, true, get_or, subst, arith}
 use Rattle.layout_spec.specs.Family.{is_one_of}
 use Rattle.layout_search.proofs.Members.{member_at}
-use Rattle.layout_search.proofs.Ahead.{chosen_of, parities_done}
+use Rattle.layout_search.proofs.BestSoFar.{chosen_of, parities_done}
 use Rattle.std.specs.Prelude.{length}
 use Rattle.layout_search.proofs.walking.try_parities.Goals as goal
 

@@ -6,7 +6,7 @@ use Rattle.zone_spec.specs.declared.params.Row.{Row}
 use Rattle.zone_spec.specs.Layout.{zones_from}
 use Rattle.layout_spec.specs.Order.{faults}
 use Rattle.layout_search.specs.Rows.{dump_row_of, console_row_of, ftrace_row_of}
-use Rattle.layout_search.proofs.Ahead.{bad_cpus, bad_rows}
+use Rattle.layout_search.proofs.BestSoFar.{bad_cpus, bad_rows}
 use Rattle.layout_search.proofs.walking.try_processors.Goals as goal
 
 pub returns-then-is_bad-clause-settled : goal.returns-then-is_bad-clause-settled

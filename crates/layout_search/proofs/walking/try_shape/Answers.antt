@@ -7,7 +7,7 @@ use Rattle.zone_spec.specs.declared.params.Row.{Row}
 use Rattle.zone_spec.specs.Layout.{zones_from}
 use Rattle.layout_spec.specs.Order.{faults}
 use Rattle.layout_search.specs.Rows.{dump_row_of}
-use Rattle.layout_search.proofs.Ahead.{not_told, not_within, without_room, bad_begin, placed_of, above}
+use Rattle.layout_search.proofs.BestSoFar.{not_told, not_within, without_room, bad_begin, placed_of, above}
 use Rattle.layout_search.proofs.walking.try_shape.Goals as goal
 
 pub returns-then-not-is_told-clause-settled : goal.returns-then-not-is_told-clause-settled

@@ -1,6 +1,6 @@
 -- The row of one damaged header computes.
 use Rattle.std.proofs.Common.{refl}
-use Rattle.layout_tests.proofs.Computing.{computing}
+use Rattle.layout_tests.proofs.Unfoldings.{computing}
 use Rattle.layout_tests.proofs.rows.one_damaged_header.Goals as goal
 
 pub returns : goal.returns

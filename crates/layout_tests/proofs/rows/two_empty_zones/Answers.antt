@@ -1,6 +1,6 @@
 -- The row of two empty zones computes.
 use Rattle.std.proofs.Common.{refl}
-use Rattle.layout_tests.proofs.Computing.{computing}
+use Rattle.layout_tests.proofs.Unfoldings.{computing}
 use Rattle.layout_tests.proofs.rows.two_empty_zones.Goals as goal
 
 pub returns : goal.returns

@@ -1,7 +1,7 @@
 -- One page more of the piece. For the loop of `add_marked`.
 use Rattle.std.proofs.Common.{true, false, sym, rules, append-nil}
 use Rattle.memory_spec.specs.Pages.{is_marked}
-use Rattle.memory_regions.proofs.Marked.{one_more}
+use Rattle.memory_regions.proofs.PageMarks.{one_more}
 use Rattle.memory_regions.proofs.pages.add_marked.Goals as goal
 use Rattle.memory_regions.proofs.pages.add_marked.Goals.{then-is_mark+in_ok-push, else-is_mark}
 

@@ -3,7 +3,7 @@ use Rattle.std.proofs.Common.{◌≡◌, ◌/◌, ◌≤◌, ◌∙◌, ap, sym,
 use Rattle.code_spec.specs.Code.{nearest}
 use Rattle.oopsbox_c.specs.Codes.{is_block, end_of}
 use Rattle.oopsbox_c.specs.Ends.{status_of}
-use Rattle.oopsbox_c.proofs.Decoded.{end_is, answered, few_fixes}
+use Rattle.oopsbox_c.proofs.DecodeAnswer.{end_is, answered, few_fixes}
 use Rattle.oopsbox_c.proofs.codes.oopsbox_rs_decode.Goals as goal
 
 pub store_places-requires : goal.store_places-requires

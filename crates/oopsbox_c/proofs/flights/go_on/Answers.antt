@@ -5,12 +5,12 @@ use Rattle.store_steps.specs.declared.place.Phase.TheVariants.{Finished}
 use Rattle.store_steps.specs.Flying.{flying}
 use Rattle.store_steps.specs.Machine.{IsKept, IsParity}
 use Rattle.store_steps.specs.Counts.{total_of}
-use Rattle.store_steps.proofs.Stepping.{ends}
+use Rattle.store_steps.proofs.FlightSteps.{ends}
 use Rattle.oopsbox_c.specs.Gathered.{IsGathered}
 use Rattle.oopsbox_c.specs.Flights.{steps_of}
 use Rattle.oopsbox_c.specs.declared.stores.Stores.{Stores}
-use Rattle.oopsbox_c.proofs.Gathering.{nothing_yet}
-use Rattle.oopsbox_c.proofs.Answered.{answered, no_less, none_taken, parity_or_not}
+use Rattle.oopsbox_c.proofs.NextStores.{nothing_yet}
+use Rattle.oopsbox_c.proofs.FlightAnswer.{answered, no_less, none_taken, parity_or_not}
 use Rattle.oopsbox_c.proofs.flights.go_on.Goals as goal
 
 pub take_parities-requires-clause-kept : goal.take_parities-requires-clause-kept

@@ -7,7 +7,7 @@ use Rattle.store_steps.specs.declared.store.Given.TheVariants.{Nothing}
 use Rattle.store_steps.specs.Flying.{Flying, flying}
 use Rattle.store_steps.specs.Handed.{handed, handed_count, IsInside}
 use Rattle.oopsbox_c.specs.Stores.{stores_in}
-use Rattle.oopsbox_c.proofs.Gathering.{grown, more_left}
+use Rattle.oopsbox_c.proofs.NextStores.{grown, more_left}
 use Rattle.oopsbox_c.proofs.flights.take_data.Goals as goal
 
 pub loop-steps-preserved : goal.loop-steps-preserved

@@ -11,7 +11,7 @@ use Rattle.oopsbox_c.specs.Stores.{row_stores, stores_in}
 use Rattle.oopsbox_c.specs.declared.stores.StoreRow.{StoreRow}
 use Rattle.ring_laws.proofs.Images.{after_stores-append}
 use Rattle.store_steps.specs.Machine.{IsSameData}
-use Rattle.oopsbox_c.proofs.Gathering.{grown}
+use Rattle.oopsbox_c.proofs.NextStores.{grown}
 use Rattle.oopsbox_c.proofs.flights.take_parities.Goals as goal
 
 pub loop-steps-init : goal.loop-steps-init

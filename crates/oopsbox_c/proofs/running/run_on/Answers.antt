@@ -1,7 +1,7 @@
 -- The objects begin with the script, the image and no text.
 use Rattle.std.proofs.Common.{◌∙◌}
 use Rattle.grammar_spec.specs.Words.{texts}
-use Rattle.report_calls.specs.Memory.{image_bytes, text_bytes, image_faults, image_writes, text_faults}
+use Rattle.report_entry.specs.Memory.{image_bytes, text_bytes, image_faults, image_writes, text_faults}
 use Rattle.oopsbox_c.specs.Memory.{script_left}
 use Rattle.oopsbox_c.proofs.Ran.{is_run}
 use Rattle.oopsbox_c.proofs.running.run_on.Goals as goal

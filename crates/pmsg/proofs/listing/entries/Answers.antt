@@ -1,6 +1,7 @@
 -- Each step adds the whole entry that stands at the place and goes to its end; at the end of the
 -- bytes none is left. For `entries`.
-use Rattle.std.proofs.Common.{◌≡◌, ◌+◌, ◌-◌, ◌<◌, ◌≤◌, ◌++◌, ◌∷◌, [], true, List, ℕ, ◌∙◌, sym, ap, length, drop, arith, length-drop}
+use Rattle.std.proofs.Common.{◌≡◌, ◌+◌, ◌-◌, ◌<◌, ◌≤◌, ◌++◌, ◌∷◌, [], true, List, ℕ, ◌∙◌, sym, ap, length, drop, arith}
+use Rattle.std.proofs.Common.{length-drop}
 use Rattle.std.proofs.lemmas.List.{append_assoc, append-nil}
 use Rattle.pmsg_spec.specs.declared.Entry.{Entry}
 use Rattle.pmsg_spec.specs.Entries.{is_entry, entry_len, are_entries, entry_of, listed, entries}

@@ -1,6 +1,7 @@
 -- One place further back it is known too whether entries follow from there; if so, they begin
 -- there. For `start_of`.
-use Rattle.std.proofs.Common.{◌≡◌, ℕ, ◌+◌, ◌-◌, ◌<◌, ◌≤◌, ◌≢◌, Bool, true, false, List, length, drop, get_or, set, ◌∙◌, sym, ap, arith, inl, inr, subst, get_or-set_other, get_or-set_same}
+use Rattle.std.proofs.Common.{◌≡◌, ℕ, ◌+◌, ◌-◌, ◌<◌, ◌≤◌, ◌≢◌, Bool, true, false, List, length, drop, get_or, set, ◌∙◌}
+use Rattle.std.proofs.Common.{sym, ap, arith, inl, inr, subst, get_or-set_other, get_or-set_same}
 use Rattle.std.proofs.lemmas.Bool.{cases_lt}
 use Rattle.std.proofs.Math.ListN.{length-set, replicate}
 use Rattle.std.proofs.lemmas.List.{get_or-replicate, length-replicate}

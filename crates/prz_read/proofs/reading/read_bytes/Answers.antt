@@ -2,7 +2,8 @@
 use Rattle.std.proofs.Common.{◌≡◌, ◌≤◌, ◌<◌, ℕ, ◌*◌, ◌/◌, refl, subst, ◌∙◌, sym, arith}
 use Rattle.list_laws.proofs.RoundingUp.{lt_from_div_ceil}
 use Rattle.ring_laws.proofs.PartsLaw.{block_some}
-use Rattle.prz_read.proofs.Pushing.{pairs-below, reads-none, whole-bytes, whole-corrected, whole-bad, whole-few, whole-states, loop-end}
+use Rattle.prz_read.proofs.BlockList.{pairs-below, reads-none, whole-bytes, whole-corrected, whole-bad, whole-few}
+use Rattle.prz_read.proofs.BlockList.{whole-states, loop-end}
 use Rattle.prz_read.proofs.reading.read_bytes.Goals as goal
 
 pub push_pairs-requires-clause-whole : goal.push_pairs-requires-clause-whole

@@ -3,7 +3,7 @@ use Rattle.std.proofs.Common.{sym, ap, ◌∙◌}
 use Rattle.zone_spec.specs.Reading.{ZoneReading, state_of}
 use Rattle.zone_spec.specs.Boot.{keeps}
 use Rattle.ring_laws.proofs.States.{reading_words, reading_state}
-use Rattle.prz_read.proofs.Uncorrected.{boot_fixes-none}
+use Rattle.prz_read.proofs.NoCorrections.{boot_fixes-none}
 use Rattle.prz_read.proofs.settling.begin.Goals as goal
 
 pub returns-then-reading-eq0-clause-stands : goal.returns-then-reading-eq0-clause-stands

@@ -1,6 +1,6 @@
 -- The three pieces, end to end, are the block's bytes. For `block_of`.
 use Rattle.std.proofs.Common.{◌≡◌, ◌-◌, ◌*◌, List, ℕ, ◌++◌, length, take, drop, ap, ap₂, ◌∙◌, arith, length-append}
-use Rattle.prz_read.proofs.Sourcing.{cut-append}
+use Rattle.prz_read.proofs.LogSources.{cut-append}
 use Rattle.prz_read.proofs.settling.block_of.Goals as goal
 
 pub returns : goal.returns

@@ -2,7 +2,7 @@
 use Rattle.std.proofs.Common.{length, sym, ap, ◌∙◌}
 use Rattle.zone_spec.specs.PartReadings.{words_read}
 use Rattle.zone_spec.specs.Reading.{ZoneReading}
-use Rattle.zone_boot.proofs.Starting.{header-reads}
+use Rattle.zone_boot.proofs.BootStart.{header-reads}
 use Rattle.prz_read.proofs.settling.hand_out.Goals as goal
 
 pub fix_header-requires-clause-reads : goal.fix_header-requires-clause-reads

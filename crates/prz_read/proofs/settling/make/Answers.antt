@@ -5,7 +5,7 @@ use Rattle.prz_region.specs.CutRegion.{stored}
 use Rattle.prz_region.proofs.Cuts.{stored-none}
 use Rattle.zone_boot.specs.declared.handing.Given.{Given}
 use Rattle.zone_boot.specs.Handed.{handed, handed_by}
-use Rattle.prz_read.proofs.Sourcing.{run-taken}
+use Rattle.prz_read.proofs.LogSources.{run-taken}
 use Rattle.prz_read.proofs.settling.make.Goals as goal
 
 pub returns-else-left-gt0 : goal.returns-else-left-gt0

@@ -12,12 +12,13 @@ use Rattle.zone_boot.specs.declared.deciding.Erasure.{Erasure}
 use Rattle.zone_boot.specs.Handed.{handed}
 use Rattle.zone_boot.specs.Booting.{Gives, KeepsReadings}
 use Rattle.zone_boot.specs.Left.{stages_of}
-use Rattle.zone_boot.proofs.Counting.{boot-long}
+use Rattle.zone_boot.proofs.StoreCounts.{boot-long}
 use Rattle.prz_read.specs.Reads.{bytes_read, read_end}
 use Rattle.prz_read.specs.Sources.{HasBlock, IsFixing}
 use Rattle.prz_read.proofs.Tails.{found}
-use Rattle.prz_read.proofs.Sourcing.{source-block}
-use Rattle.prz_read.proofs.Passing.{span-is, erasure-by, block-moved, settling-lent, settling-length, settling-done, settling-all, settling-smaller, settling-step}
+use Rattle.prz_read.proofs.LogSources.{source-block}
+use Rattle.prz_read.proofs.LimitedBoot.{span-is, erasure-by, block-moved, settling-lent, settling-length, settling-done}
+use Rattle.prz_read.proofs.LimitedBoot.{settling-all, settling-smaller, settling-step}
 use Rattle.prz_read.proofs.settling.settle_by.Goals as goal
 
 pub hand_out-requires-clause-size : goal.hand_out-requires-clause-size

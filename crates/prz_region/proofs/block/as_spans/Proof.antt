@@ -10,7 +10,8 @@ use base.Logic.{ent}
 use base.Fml.{Lft, ftrue, flft, fsep}
 use contract.Running.{tables}
 use types.Logic.{Logic, sem}
-use types.Kit.{‵, ◌⊛◌, at_ret, ◌$◌, ◌∵◌, !, qed, move, keep, drop, use1, split, join, fsplit, fjoin, fpack, feq_i, flt_i, suffices, frame, done}
+use types.Kit.{‵, ◌⊛◌, at_ret, ◌$◌, ◌∵◌, !, qed, move, keep, drop, use1, split, join, fsplit, fjoin, fpack, feq_i}
+use types.Kit.{flt_i, suffices, frame, done}
 use types.Part.{whole, sub, agg}
 use types.Run.{stop, fld, hop, from, addr, of_opd, and_then, no_more, first, blocks, exec, returns, enter}
 use types.ByLocal.{alloc_all, pass_all, free_all, look_at, look_in_at, get, get_in, sets, sets_last, env}

@@ -1,5 +1,15 @@
 -- `based` takes a row apart and makes it again, with its place. Assumes `Logic`.
-use Rattle.prz_region.proofs.Names.{◌≡◌, refl, sym, subst, ◌∙◌, Bool, ℕ, ◌<◌, List, [], ◌∷◌, ◌++◌, length, a_type, Val, WT, inst_fn, SProp, emp, Lft, Share, ftrue, flft, WpFn, ◌⊑◌, fact, fact_i, tables, ‵, raw, ◌⊛◌, some, given, later, prop, at_ret, ◌$◌, ◌∵◌, !, qed, by, move, keep, use0, use1, use2, split, join, pick, learn, regoal, fsplit, fjoin, await, whole, sub, agg, stop, fld, of_opd, no_more, and_then, first, blocks, exec, returns, enter, alloc_all, pass_all, free_all, look_at, get, get_in, sets, sets_last, lands_as, env, no, owns, block_ptr, layouts, plain, types_at, nothing, heard, calls_at, Stays, stay_dropped, walk_of, Goes-dropped, after, fm, proved_at, leaves, slots_items, slots_filled, slots_ptr, slots_len, slots_counts, IsFull, row_val, row_had, row_made, El, no_al, el, all, Row, From, at_from, Made, from_goes, from_gives, Into, at_into, Into-goes, Into-gives, pair_of, pair_val}
+use Rattle.prz_region.proofs.Names.{◌≡◌, refl, sym, subst, ◌∙◌, Bool, ℕ, ◌<◌, List, [], ◌∷◌, ◌++◌, length, a_type, Val}
+use Rattle.prz_region.proofs.Names.{WT, inst_fn, SProp, emp, Lft, Share, ftrue, flft, WpFn, ◌⊑◌, fact, fact_i, tables}
+use Rattle.prz_region.proofs.Names.{‵, raw, ◌⊛◌, some, given, later, prop, at_ret, ◌$◌, ◌∵◌, !, qed, by, move, keep}
+use Rattle.prz_region.proofs.Names.{use0, use1, use2, split, join, pick, learn, regoal, fsplit, fjoin, await, whole}
+use Rattle.prz_region.proofs.Names.{sub, agg, stop, fld, of_opd, no_more, and_then, first, blocks, exec, returns, enter}
+use Rattle.prz_region.proofs.Names.{alloc_all, pass_all, free_all, look_at, get, get_in, sets, sets_last, lands_as, env}
+use Rattle.prz_region.proofs.Names.{no, owns, block_ptr, layouts, plain, types_at, nothing, heard, calls_at, Stays}
+use Rattle.prz_region.proofs.Names.{stay_dropped, walk_of, Goes-dropped, after, fm, proved_at, leaves, slots_items}
+use Rattle.prz_region.proofs.Names.{slots_filled, slots_ptr, slots_len, slots_counts, IsFull, row_val, row_had}
+use Rattle.prz_region.proofs.Names.{row_made, El, no_al, el, all, Row, From, at_from, Made, from_goes, from_gives, Into}
+use Rattle.prz_region.proofs.Names.{at_into, Into-goes, Into-gives, pair_of, pair_val}
 use Rattle.core.proofs.slots.Slots.from_raw_parts.Met as makes
 use Rattle.core.proofs.slots.Slots.into_raw_parts.Met as takes
 use mir.Val.{vptr}

@@ -1,5 +1,15 @@
 -- `close` makes the block of the row and the rest, and the Vec has it again. Assumes `Logic`.
-use Rattle.prz_region.proofs.Names.{◌≡◌, refl, sym, ◌∙◌, Bool, ℕ, ◌≤◌, ◌<◌, arith, List, [], ◌∷◌, ◌++◌, length, take, length-take-le, a_type, dcons, dnil, Val, WT, inst_fn, SProp, emp, Lft, Share, ftrue, flft, WpFn, ◌⊑◌, fact, fact_i, tables, ‵, raw, ◌⊛◌, given, later, prop, at_ret, ◌$◌, ◌∵◌, !, qed, by, move, keep, use0, use1, use2, split, join, learn, regoal, fsplit3, fjoin, await, whole, sub, stop, fld, of_opd, no_more, and_then, first, blocks, exec, returns, enter, alloc_all, pass_all, free_all, look_at, get, get_in, sets, lands_last, env, owns, block_ptr, bounded, plain, types_at, nothing, heard, calls_at_last, Stays, stay_dropped, walk_of, Goes-dropped, after, fm, proved_at, leaves, slots_items, slots_filled, slots_ptr, slots_len, slots_counts, IsFull, row_val, El, all, Row, Into, at_into, Into-goes, Into-gives, Row-seen, parts_typed}
+use Rattle.prz_region.proofs.Names.{◌≡◌, refl, sym, ◌∙◌, Bool, ℕ, ◌≤◌, ◌<◌, arith, List, [], ◌∷◌, ◌++◌, length, take}
+use Rattle.prz_region.proofs.Names.{length-take-le, a_type, dcons, dnil, Val, WT, inst_fn, SProp, emp, Lft, Share}
+use Rattle.prz_region.proofs.Names.{ftrue, flft, WpFn, ◌⊑◌, fact, fact_i, tables, ‵, raw, ◌⊛◌, given, later, prop}
+use Rattle.prz_region.proofs.Names.{at_ret, ◌$◌, ◌∵◌, !, qed, by, move, keep, use0, use1, use2, split, join, learn}
+use Rattle.prz_region.proofs.Names.{regoal, fsplit3, fjoin, await, whole, sub, stop, fld, of_opd, no_more, and_then}
+use Rattle.prz_region.proofs.Names.{first, blocks, exec, returns, enter, alloc_all, pass_all, free_all, look_at, get}
+use Rattle.prz_region.proofs.Names.{get_in, sets, lands_last, env, owns, block_ptr, bounded, plain, types_at, nothing}
+use Rattle.prz_region.proofs.Names.{heard, calls_at_last, Stays, stay_dropped, walk_of, Goes-dropped, after, fm}
+use Rattle.prz_region.proofs.Names.{proved_at, leaves, slots_items, slots_filled, slots_ptr, slots_len, slots_counts}
+use Rattle.prz_region.proofs.Names.{IsFull, row_val, El, all, Row, Into, at_into, Into-goes, Into-gives, Row-seen}
+use Rattle.prz_region.proofs.Names.{parts_typed}
 use lib.Seq.{take_all}
 use types.Kit.{split3}
 use Rattle.std_alloc.specs.Vec.Ownership.{has_block}

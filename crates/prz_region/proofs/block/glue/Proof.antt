@@ -1,5 +1,16 @@
 -- `glue` takes two rows apart and makes one of their places. Assumes `Logic`.
-use Rattle.prz_region.proofs.Names.{◌≡◌, refl, sym, ap, subst, ◌∙◌, Bool, ℕ, ◌+◌, ◌*◌, ◌<◌, ◌^◌, arith, List, [], ◌∷◌, ◌++◌, length, length-append, a_type, Val, WT, inst_fn, SProp, emp, Lft, Share, ftrue, flft, WpFn, ◌⊑◌, fact, fact_i, tables, ‵, raw, ◌⊛◌, some, given, later, prop, at_ret, ◌$◌, ◌∵◌, !, qed, by, move, keep, use0, use1, use2, split, join, pick, learn, rewrite, regoal, fsplit3, fjoin, await, whole, sub, stop, fld, of_opd, bin, no_more, and_then, first, blocks, exec, returns, enter, alloc_all, pass_all, free_all, look_at, get, get_in, sets, lands_as, lands_last, is, env, no, owns, Ptr, block_ptr, ◌+ₚ◌, layouts, plain, types_at, nothing, heard, calls_at, calls_at_last, Stays, stay_dropped, walk_of, Goes-dropped, after, fm, proved_at, leaves, slots_items, slots_filled, slots_ptr, slots_len, slots_counts, IsFull, bytes_of, row_val, words_val, row_glue, El, no_al, el, all, Row, From, at_from, Made, from_goes, from_gives, Into, at_into, Into-goes, Into-gives, Row-seen, row_Typed}
+use Rattle.prz_region.proofs.Names.{◌≡◌, refl, sym, ap, subst, ◌∙◌, Bool, ℕ, ◌+◌, ◌*◌, ◌<◌, ◌^◌, arith, List, [], ◌∷◌}
+use Rattle.prz_region.proofs.Names.{◌++◌, length, length-append, a_type, Val, WT, inst_fn, SProp, emp, Lft, Share}
+use Rattle.prz_region.proofs.Names.{ftrue, flft, WpFn, ◌⊑◌, fact, fact_i, tables, ‵, raw, ◌⊛◌, some, given, later, prop}
+use Rattle.prz_region.proofs.Names.{at_ret, ◌$◌, ◌∵◌, !, qed, by, move, keep, use0, use1, use2, split, join, pick}
+use Rattle.prz_region.proofs.Names.{learn, rewrite, regoal, fsplit3, fjoin, await, whole, sub, stop, fld, of_opd, bin}
+use Rattle.prz_region.proofs.Names.{no_more, and_then, first, blocks, exec, returns, enter, alloc_all, pass_all}
+use Rattle.prz_region.proofs.Names.{free_all, look_at, get, get_in, sets, lands_as, lands_last, is, env, no, owns, Ptr}
+use Rattle.prz_region.proofs.Names.{block_ptr, ◌+ₚ◌, layouts, plain, types_at, nothing, heard, calls_at, calls_at_last}
+use Rattle.prz_region.proofs.Names.{Stays, stay_dropped, walk_of, Goes-dropped, after, fm, proved_at, leaves}
+use Rattle.prz_region.proofs.Names.{slots_items, slots_filled, slots_ptr, slots_len, slots_counts, IsFull, bytes_of}
+use Rattle.prz_region.proofs.Names.{row_val, words_val, row_glue, El, no_al, el, all, Row, From, at_from, Made}
+use Rattle.prz_region.proofs.Names.{from_goes, from_gives, Into, at_into, Into-goes, Into-gives, Row-seen, row_Typed}
 use Rattle.std_alloc.proofs.VecSteps.El.{R}
 use Rattle.prz_region.proofs.Rows.{filled-append}
 use Rattle.core.proofs.slots.Slots.from_raw_parts.Met as makes

@@ -26,7 +26,8 @@ use denote.Triple.Clauses.{Clauses, Ended, closing}
 use denote.Triple.Spec.{Meets, triple_of}
 use denote.Triple.Table.{entered}
 use sound.WpLaws.{WpFn-mono}
-use types.Kit.{‵, raw, ◌⊛◌, prop, at_ret, ◌$◌, ◌∵◌, !, qed, move, keep, use1, drop, split, split3, join, rewrite, regoal, fsplit, fjoin, feq_i, flt_l, flt_i, suffices, done}
+use types.Kit.{‵, raw, ◌⊛◌, prop, at_ret, ◌$◌, ◌∵◌, !, qed, move, keep, use1, drop, split, split3, join, rewrite}
+use types.Kit.{regoal, fsplit, fjoin, feq_i, flt_l, flt_i, suffices, done}
 use types.Part.{agg}
 use types.Run.{of_opd, no_more, and_then, first, blocks, exec, returns, enter}
 use types.ByLocal.{alloc_all, pass_all, free_all, look_at, get, sets, sets_last, env}

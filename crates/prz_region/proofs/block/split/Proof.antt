@@ -1,5 +1,18 @@
 -- `split` takes a row apart and makes two of its places. Assumes `Logic`.
-use Rattle.prz_region.proofs.Names.{◌≡◌, refl, sym, ap, subst, ◌∙◌, Bool, ℕ, ◌+◌, ◌-◌, ◌*◌, ◌≤◌, ◌<◌, ◌^◌, arith, List, [], ◌∷◌, ◌++◌, length, length-take-le, length-drop, take, drop_l, take-append-drop, times_below, a_type, w64, Val, WT, vint, inst_fn, SProp, emp, Lft, Share, ftrue, flft, WpFn, ◌⊑◌, fact, fact_i, tables, ‵, raw, ◌⊛◌, some, given, later, prop, at_ret, ◌$◌, ◌∵◌, !, qed, by, move, keep, use0, use1, use2, split, join, pick, learn, rewrite, regoal, fsplit, fjoin, await, whole, sub, agg, stop, fld, of_opd, bin, size_word, no_more, and_then, first, blocks, exec, returns, enter, alloc_all, pass_all, free_all, look_at, get, get_in, sets, sets_last, lands_as, is, env, no, yes, owns, Ptr, block_ptr, ◌+ₚ◌, layouts, plain, usize, types_at, nothing, heard, calls_at, Stays, stay_dropped, walk_of, Goes-dropped, after, fm, proved_at, leaves, slots_items, slots_filled, slots_ptr, slots_len, slots_counts, IsFull, bytes_of, row_val, row_had, row_made, row_cut, El, no_al, el, all, Row, From, at_from, Made, from_goes, from_gives, Into, at_into, Into-goes, Into-gives, uncapped, pair_of, pair_val}
+use Rattle.prz_region.proofs.Names.{◌≡◌, refl, sym, ap, subst, ◌∙◌, Bool, ℕ, ◌+◌, ◌-◌, ◌*◌, ◌≤◌, ◌<◌, ◌^◌, arith, List}
+use Rattle.prz_region.proofs.Names.{[], ◌∷◌, ◌++◌, length, length-take-le, length-drop, take, drop_l, take-append-drop}
+use Rattle.prz_region.proofs.Names.{times_below, a_type, w64, Val, WT, vint, inst_fn, SProp, emp, Lft, Share, ftrue}
+use Rattle.prz_region.proofs.Names.{flft, WpFn, ◌⊑◌, fact, fact_i, tables, ‵, raw, ◌⊛◌, some, given, later, prop}
+use Rattle.prz_region.proofs.Names.{at_ret, ◌$◌, ◌∵◌, !, qed, by, move, keep, use0, use1, use2, split, join, pick}
+use Rattle.prz_region.proofs.Names.{learn, rewrite, regoal, fsplit, fjoin, await, whole, sub, agg, stop, fld, of_opd}
+use Rattle.prz_region.proofs.Names.{bin, size_word, no_more, and_then, first, blocks, exec, returns, enter, alloc_all}
+use Rattle.prz_region.proofs.Names.{pass_all, free_all, look_at, get, get_in, sets, sets_last, lands_as, is, env, no}
+use Rattle.prz_region.proofs.Names.{yes, owns, Ptr, block_ptr, ◌+ₚ◌, layouts, plain, usize, types_at, nothing, heard}
+use Rattle.prz_region.proofs.Names.{calls_at, Stays, stay_dropped, walk_of, Goes-dropped, after, fm, proved_at, leaves}
+use Rattle.prz_region.proofs.Names.{slots_items, slots_filled, slots_ptr, slots_len, slots_counts, IsFull, bytes_of}
+use Rattle.prz_region.proofs.Names.{row_val, row_had, row_made, row_cut, El, no_al, el, all, Row, From, at_from, Made}
+use Rattle.prz_region.proofs.Names.{from_goes, from_gives, Into, at_into, Into-goes, Into-gives, uncapped, pair_of}
+use Rattle.prz_region.proofs.Names.{pair_val}
 use Rattle.std_alloc.proofs.VecSteps.El.{R}
 use Rattle.prz_region.proofs.Rows.{filled-take, filled-drop}
 use Rattle.core.proofs.slots.Slots.from_raw_parts.Met as makes

@@ -30,7 +30,8 @@ use denote.Triple.Entry.{Vals}
 use denote.Triple.Spec.{Meets, triple_of}
 use denote.Triple.Table.{entered}
 use sound.WpLaws.{WpFn-mono}
-use types.Kit.{‵, raw, ◌⊛◌, at_ret, ◌$◌, ◌∵◌, !, qed, move, keep, use0, use1, use2, drop as leave, split, join, fsplit, fsplit3, fjoin, fjoin3, feq_i, given, learn, rewrite, suffices, done}
+use types.Kit.{‵, raw, ◌⊛◌, at_ret, ◌$◌, ◌∵◌, !, qed, move, keep, use0, use1, use2, drop as leave, split, join, fsplit}
+use types.Kit.{fsplit3, fjoin, fjoin3, feq_i, given, learn, rewrite, suffices, done}
 use types.Run.{init, stop, size_word, unit_lit, of_opd, bin, assigns_last, first, blocks, exec, returns, enter}
 use types.ByLocal.{alloc_all, pass_all, free_all, look_at, get, is, through, sets, take_at, give_at, env}
 use denote.Array.{Array}
@@ -54,7 +55,8 @@ use Rattle.core.proofs.slots.Places.{sz, of_row}
 use Rattle.core.proofs.str.Laws.{order}
 use Rattle.core.proofs.slots.Opens.{Sr, el_d, places, row_opens, row_closes}
 use Rattle.core.proofs.slots.Leases.{uncapped}
-use Rattle.core.proofs.slots.Runs.{run as part, spliced, run_long, spliced_long, inside, outside, Around, run_out, run_in, to_space}
+use Rattle.core.proofs.slots.Runs.{run as part, spliced, run_long, spliced_long, inside, outside, Around, run_out}
+use Rattle.core.proofs.slots.Runs.{run_in, to_space}
 use Rattle.prz_region.specs.Made.{Write}
 use Rattle.prz_region.specs.contracts.block.Stores as St
 use Rattle.prz_region.specs.contracts.block.store_array as F

@@ -1,5 +1,14 @@
 -- `take_apart` makes a row of the elements, and keeps the rest. Assumes `Logic`.
-use Rattle.prz_region.proofs.Names.{◌≡◌, refl, sym, ap, subst, ◌∙◌, Bool, ℕ, ◌-◌, ◌*◌, ◌≤◌, ◌<◌, ◌^◌, arith, List, [], ◌∷◌, ◌++◌, length, times_below, a_type, dcons, dnil, w64, Val, WT, vint, inst_fn, SProp, emp, Lft, Share, ftrue, flft, WpFn, ◌⊑◌, fact, fact_i, tables, ‵, raw, ◌⊛◌, some, given, later, prop, at_ret, ◌$◌, ◌∵◌, !, qed, by, move, keep, use0, use1, use2, split, join, pick, learn, regoal, fsplit, fjoin, await, agg, of_opd, no_more, and_then, first, blocks, exec, returns, enter, alloc_all, pass_all, free_all, look_at, get, sets, lands_last, is, env, owns, Ptr, bounded, plain, usize, types_at, nothing, heard, calls_at_last, Stays, stay_dropped, walk_of, Goes-dropped, after, fm, proved_at, leaves, slots_items, slots_ptr, slots_len, IsFull, row_val, El, all, Row, From, at_from, Made, from_goes, from_gives, row_Typed, pair_of, pair_val}
+use Rattle.prz_region.proofs.Names.{◌≡◌, refl, sym, ap, subst, ◌∙◌, Bool, ℕ, ◌-◌, ◌*◌, ◌≤◌, ◌<◌, ◌^◌, arith, List, []}
+use Rattle.prz_region.proofs.Names.{◌∷◌, ◌++◌, length, times_below, a_type, dcons, dnil, w64, Val, WT, vint, inst_fn}
+use Rattle.prz_region.proofs.Names.{SProp, emp, Lft, Share, ftrue, flft, WpFn, ◌⊑◌, fact, fact_i, tables, ‵, raw, ◌⊛◌}
+use Rattle.prz_region.proofs.Names.{some, given, later, prop, at_ret, ◌$◌, ◌∵◌, !, qed, by, move, keep, use0, use1}
+use Rattle.prz_region.proofs.Names.{use2, split, join, pick, learn, regoal, fsplit, fjoin, await, agg, of_opd, no_more}
+use Rattle.prz_region.proofs.Names.{and_then, first, blocks, exec, returns, enter, alloc_all, pass_all, free_all}
+use Rattle.prz_region.proofs.Names.{look_at, get, sets, lands_last, is, env, owns, Ptr, bounded, plain, usize, types_at}
+use Rattle.prz_region.proofs.Names.{nothing, heard, calls_at_last, Stays, stay_dropped, walk_of, Goes-dropped, after}
+use Rattle.prz_region.proofs.Names.{fm, proved_at, leaves, slots_items, slots_ptr, slots_len, IsFull, row_val, El, all}
+use Rattle.prz_region.proofs.Names.{Row, From, at_from, Made, from_goes, from_gives, row_Typed, pair_of, pair_val}
 use types.Kit.{split3}
 use denote.Exit.{rest}
 use denote.Param.{layout}

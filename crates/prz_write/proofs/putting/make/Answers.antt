@@ -4,7 +4,7 @@ use Rattle.std.proofs.Common.{[], sym, ap, ◌∙◌, take, drop}
 use Rattle.zone_spec.specs.Stores.{word_store}
 use Rattle.prz_region.proofs.Cuts.{stored-none}
 use Rattle.store_steps.specs.Handed.{handed_by}
-use Rattle.prz_write.proofs.Making.{made, made_bytes}
+use Rattle.prz_write.proofs.SpanStores.{made, made_bytes}
 use Rattle.prz_write.proofs.putting.make.Goals as goal
 
 pub returns-in-Word : goal.returns-in-Word

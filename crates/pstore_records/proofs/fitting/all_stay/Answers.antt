@@ -5,7 +5,7 @@ use Rattle.zone_spec.specs.Records.{Saved}
 use Rattle.ramoops_layout.specs.Laid.{zones_of}
 use Rattle.prz_read.specs.Saving.{saved}
 use Rattle.pstore_records.specs.Moves.{stays}
-use Rattle.pstore_records.proofs.Forgetting.{mapped-more}
+use Rattle.pstore_records.proofs.UnfitLogs.{mapped-more}
 use Rattle.pstore_records.proofs.fitting.all_stay.Goals as goal
 
 pub loop-i-preserved : goal.loop-i-preserved

@@ -5,7 +5,7 @@ use Rattle.zone_spec.specs.Records.{Saved}
 use Rattle.ramoops_layout.specs.Laid.{zones_of}
 use Rattle.machine_spec.specs.Moved.{fits}
 use Rattle.prz_read.specs.Saving.{saved}
-use Rattle.pstore_records.proofs.Moved.{fits-append, fits-all}
+use Rattle.pstore_records.proofs.RecordFit.{fits-append, fits-all}
 use Rattle.pstore_records.proofs.Steps.{added-more}
 use Rattle.pstore_records.proofs.fitting.fits.Goals as goal
 

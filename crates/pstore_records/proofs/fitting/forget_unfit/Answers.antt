@@ -6,7 +6,7 @@ use Rattle.ramoops_layout.specs.Laid.{zones_of}
 use Rattle.prz_read.specs.Saving.{saved}
 use Rattle.pstore_records.specs.Moves.{stays}
 use Rattle.pstore_records.proofs.Steps.{item-at}
-use Rattle.pstore_records.proofs.Forgetting.{forgets_stay, forgets_next, forgets_all, read-mapped}
+use Rattle.pstore_records.proofs.UnfitLogs.{forgets_stay, forgets_next, forgets_all, read-mapped}
 use Rattle.pstore_records.proofs.fitting.forget_unfit.Goals as goal
 use Rattle.pstore_records.proofs.fitting.forget_unfit.Goals.{then-not-index, else-not-index}
 

@@ -1,6 +1,6 @@
 -- The first `i` logs are forgotten if their record doesn't fit, the rest stand as before. For the
 -- loop of `forget_unfit`.
-use Rattle.pstore_records.proofs.Forgetting.{ForgetsTo}
+use Rattle.pstore_records.proofs.UnfitLogs.{ForgetsTo}
 use Rattle.ramoops_layout.specs.Laid.{zones_of}
 use Rattle.pstore_records.proofs.fitting.forget_unfit.Given as goal
 

@@ -7,7 +7,7 @@ use Rattle.zone_spec.specs.declared.Kind.TheVariants.{Dump}
 use Rattle.zone_spec.specs.Records.{Saved, is_of}
 use Rattle.ramoops_layout.specs.Laid.{zones_of}
 use Rattle.prz_read.specs.Saving.{saved}
-use Rattle.pstore_records.proofs.Forgetting.{counted-stays}
+use Rattle.pstore_records.proofs.UnfitLogs.{counted-stays}
 use Rattle.pstore_records.proofs.fitting.stays.Goals as goal
 use Rattle.pstore_records.proofs.fitting.stays.Goals.{then-rises, else-rises}
 

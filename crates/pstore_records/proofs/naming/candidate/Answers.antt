@@ -1,6 +1,6 @@
 -- A text with none of the names' fronts is no name of a record. For `candidate`.
 use Rattle.std.proofs.Common.{sym, ◌∙◌}
-use Rattle.pstore_records.proofs.Finding.{nameless}
+use Rattle.pstore_records.proofs.DumpNumbers.{nameless}
 use Rattle.pstore_records.proofs.naming.candidate.Goals as goal
 
 pub returns-in-None : goal.returns-in-None

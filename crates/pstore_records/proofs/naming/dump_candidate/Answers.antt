@@ -2,7 +2,7 @@
 -- For `dump_candidate`.
 use Rattle.std.proofs.Common.{Some, ap, ◌∙◌, sym, Bool}
 use Rattle.zone_spec.specs.declared.Name.TheVariants.{Dump}
-use Rattle.pstore_records.proofs.Finding.{split-some, split-none}
+use Rattle.pstore_records.proofs.DumpNumbers.{split-some, split-none}
 use Rattle.pstore_records.proofs.naming.dump_candidate.Goals as goal
 
 pub returns-in-Some : goal.returns-in-Some

@@ -1,6 +1,7 @@
 -- A zone without the dump is passed over, the first one with it is found, and at the end there is
 -- none. For `dump`.
-use Rattle.std.proofs.Common.{◌≡◌, ◌++◌, ◌∷◌, [], ◌+◌, ◌<◌, ℕ, Bool, true, false, List, Option, Some, None, length, take, drop, arith, ap, sym, ◌∙◌, refl}
+use Rattle.std.proofs.Common.{◌≡◌, ◌++◌, ◌∷◌, [], ◌+◌, ◌<◌, ℕ, Bool, true, false, List, Option, Some, None, length}
+use Rattle.std.proofs.Common.{take, drop, arith, ap, sym, ◌∙◌, refl}
 use Rattle.std.specs.Prelude.{is_some, slice_get}
 use Rattle.std.proofs.lemmas.List.{take_all}
 use Rattle.zone_spec.specs.declared.Name.TheVariants.{Dump}
@@ -8,7 +9,7 @@ use Rattle.zone_spec.specs.Records.{Saved, Listed, first_listed, record_of}
 use Rattle.prz_read.specs.Saving.{saved}
 use Rattle.pstore_records.specs.declared.records.Record.{Record}
 use Rattle.pstore_records.specs.Contents.{parts_of, parts_in}
-use Rattle.pstore_records.proofs.Named.{dumps_named, dumps_named-append, named-dump, none-listed, first-listed}
+use Rattle.pstore_records.proofs.OneName.{dumps_named, dumps_named-append, named-dump, none-listed, first-listed}
 use Rattle.pstore_records.proofs.Steps.{item-at, joined-all}
 use Rattle.pstore_records.proofs.records.dump.Goals as goal
 

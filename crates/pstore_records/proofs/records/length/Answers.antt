@@ -2,7 +2,7 @@
 use Rattle.std.proofs.Common.{◌≡◌, ◌+◌, ℕ, Some, length, ap, ◌∙◌}
 use Rattle.prz_read.specs.Saving.{saved}
 use Rattle.zone_spec.specs.Notices.{notice}
-use Rattle.pstore_records.proofs.Alone.{notice-counted}
+use Rattle.pstore_records.proofs.OwnDumpZone.{notice-counted}
 use Rattle.pstore_records.proofs.Given.{with-notice-length}
 use Rattle.pstore_records.proofs.records.length.Goals as goal
 

@@ -2,7 +2,7 @@
 -- `numbers_rise`.
 use Rattle.std.proofs.Common.{◌<◌, length, sym, ◌∙◌, arith}
 use Rattle.prz_read.specs.Saving.{saved}
-use Rattle.pstore_records.proofs.Alone.{rise-fails, rise-more, rise-passes, rise-ends}
+use Rattle.pstore_records.proofs.OwnDumpZone.{rise-fails, rise-more, rise-passes, rise-ends}
 use Rattle.pstore_records.proofs.walk.numbers_rise.Goals as goal
 use Rattle.pstore_records.proofs.walk.numbers_rise.Goals.{then-is_kind+else-from-least, else-is_kind}
 

@@ -1,7 +1,7 @@
 -- A call begun has as many stores left as the session says; a refused one has none. For
 -- `begin_stores`.
 use Rattle.ramoops.specs.Asks.{ask_seen}
-use Rattle.ram_generator.proofs.Making.{begun_call, unbegun_call}
+use Rattle.ram_generator.proofs.SessionCalls.{begun_call, unbegun_call}
 use Rattle.ram_generator.proofs.calls.begin_stores.Goals as goal
 
 pub returns-in-Ok : goal.returns-in-Ok

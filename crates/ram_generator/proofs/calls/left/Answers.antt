@@ -1,5 +1,5 @@
 -- The number is that of the zone's flight, and 0 if the layout lacks the zone. For `left`.
-use Rattle.ram_generator.proofs.Making.{left_there, left_nowhere}
+use Rattle.ram_generator.proofs.SessionCalls.{left_there, left_nowhere}
 use Rattle.ram_generator.proofs.calls.left.Goals as goal
 
 pub returns-in-Ok : goal.returns-in-Ok

@@ -1,6 +1,6 @@
 -- A call made is counted with its stores. For `make_call`.
 use Rattle.ramoops.specs.Asks.{ask_seen}
-use Rattle.ram_generator.proofs.Making.{call_counted}
+use Rattle.ram_generator.proofs.SessionCalls.{call_counted}
 use Rattle.ram_generator.proofs.calls.make_call.Goals as goal
 
 pub returns-clause-made : goal.returns-clause-made

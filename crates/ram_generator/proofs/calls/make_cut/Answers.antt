@@ -4,7 +4,7 @@ use Rattle.script_spec.specs.Generated.{with_cut}
 use Rattle.ram_generator.specs.declared.turns.CutAppend.{CutAppend}
 use Rattle.ram_generator.specs.Turns.{cut_of}
 use Rattle.ram_generator.specs.Sessions.{Runs}
-use Rattle.ram_generator.proofs.Making.{cut_counted}
+use Rattle.ram_generator.proofs.SessionCalls.{cut_counted}
 use Rattle.ram_generator.proofs.calls.make_cut.Goals as goal
 
 pub returns-in_default-clause-cut : goal.returns-in_default-clause-cut

@@ -1,7 +1,7 @@
 -- A call begun and finished has made all its stores; a refused one none. For `make_stores`.
 use Rattle.ramoops.specs.Asks.{ask_seen}
 use Rattle.ram_session.proofs.Makes.{make_done, make_idle}
-use Rattle.ram_generator.proofs.Making.{made_call, refused_call}
+use Rattle.ram_generator.proofs.SessionCalls.{made_call, refused_call}
 use Rattle.ram_generator.proofs.calls.make_stores.Goals as goal
 
 pub returns-in-Err : goal.returns-in-Err

@@ -3,7 +3,7 @@ use Rattle.std.proofs.Common.{sym, refl, append-nil, arith}
 use Rattle.std.proofs.lemmas.List.{take_all}
 use Rattle.std.proofs.lemmas.List.Elements.{All-push}
 use Rattle.ram_generator.specs.Damage.{IsWithin}
-use Rattle.ram_generator.proofs.Making.{resting_more}
+use Rattle.ram_generator.proofs.SessionCalls.{resting_more}
 use Rattle.ram_generator.proofs.calls.resting.Goals as goal
 use Rattle.ram_generator.proofs.calls.resting.Goals.{then-rests+in_ok-push, else-rests}
 

@@ -2,7 +2,7 @@
 use Rattle.std.proofs.Common.{take}
 use Rattle.std.specs.List.{All}
 use Rattle.ram_generator.specs.Damage.{IsWithin}
-use Rattle.ram_generator.proofs.Making.{AreResting}
+use Rattle.ram_generator.proofs.SessionCalls.{AreResting}
 use Rattle.ram_generator.proofs.calls.resting.Given as goal
 
 abbrev pub invariant-zones : goal.invariant-zones

@@ -1,5 +1,5 @@
 -- No call stands where none flies, and where there is no zone. For `rests`.
-use Rattle.ram_generator.proofs.Making.{rests_there, rests_nowhere}
+use Rattle.ram_generator.proofs.SessionCalls.{rests_there, rests_nowhere}
 use Rattle.ram_generator.proofs.calls.rests.Goals as goal
 
 pub returns-in-Ok : goal.returns-in-Ok

@@ -1,6 +1,6 @@
 -- Stores made in the zone's flight are the session's steps; without a flight nothing changes. For
 -- `step_stores`.
-use Rattle.ram_generator.proofs.Making.{stepped_on, not_stepped}
+use Rattle.ram_generator.proofs.SessionCalls.{stepped_on, not_stepped}
 use Rattle.ram_generator.proofs.calls.step_stores.Goals as goal
 
 pub returns-in-Ok : goal.returns-in-Ok

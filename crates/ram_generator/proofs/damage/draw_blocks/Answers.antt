@@ -3,7 +3,7 @@ use Rattle.std.proofs.Common.{◌≡◌, ◌*◌, ◌-◌, ap, arith}
 use Rattle.zone_spec.specs.Parts.{Block, part_len}
 use Rattle.script_spec.specs.Generated.{drawn_flips}
 use Rattle.ram_generator.proofs.Over.{over_more, over_all}
-use Rattle.ram_generator.proofs.Damaging.{blocks_start, block_next, blocks_end}
+use Rattle.ram_generator.proofs.PartFlips.{blocks_start, block_next, blocks_end}
 use Rattle.ram_generator.proofs.damage.draw_blocks.Goals as goal
 
 pub parts-init : goal.parts-init

@@ -2,7 +2,7 @@
 use Rattle.std.proofs.Common.{◌≡◌, ◌≤◌}
 use Rattle.script_spec.specs.Generated.{draw_over, drawn_flips}
 use Rattle.ram_generator.specs.Damage.{blocks_of}
-use Rattle.ram_generator.proofs.Damaging.{blocks_left}
+use Rattle.ram_generator.proofs.PartFlips.{blocks_left}
 use Rattle.ram_generator.proofs.damage.draw_blocks.Given as goal
 
 abbrev pub invariant-parts : goal.invariant-parts

@@ -1,7 +1,7 @@
 -- The header's flips and then the blocks' are the zone's damage. For `draw_damage`.
 use Rattle.std.proofs.Common.{refl, arith}
 use Rattle.zone_spec.specs.Parts.{Header}
-use Rattle.ram_generator.proofs.Damaging.{zone_drawn}
+use Rattle.ram_generator.proofs.PartFlips.{zone_drawn}
 use Rattle.ram_generator.proofs.damage.draw_damage.Goals as goal
 
 pub returns : goal.returns

@@ -1,5 +1,5 @@
 -- The number, the place and the masks are drawn in this order, for a part of this length. For `draw_flips`.
-use Rattle.ram_generator.proofs.Damaging.{part_drawn}
+use Rattle.ram_generator.proofs.PartFlips.{part_drawn}
 use Rattle.ram_generator.proofs.damage.draw_flips.Goals as goal
 
 pub returns : goal.returns

@@ -8,7 +8,7 @@ use Rattle.script_spec.specs.Generated.{Generated, resting, is_told, is_other, w
 use Rattle.ram_generator.specs.declared.counts.Counts.{Counts}
 use Rattle.ram_generator.specs.Counting.{counted, flips_added, verdicts_added}
 use Rattle.ram_generator.specs.Sessions.{RunsTo}
-use Rattle.ram_generator.proofs.Rounding.{boot_drawn, booted_is}
+use Rattle.ram_generator.proofs.RoundCalls.{boot_drawn, booted_is}
 use Rattle.ram_generator.proofs.rounds.boot.Goals as goal
 
 pub returns-clause-booted : goal.returns-clause-booted

@@ -1,7 +1,7 @@
 -- A booted machine stands for the booted state, with its reports. For `boot_up`.
 use Rattle.std.proofs.Common.{map}
 use Rattle.ramoops.specs.Reports.{report_seen}
-use Rattle.ram_generator.proofs.Rounding.{is_up}
+use Rattle.ram_generator.proofs.RoundCalls.{is_up}
 use Rattle.ram_generator.proofs.rounds.boot_up.Goals as goal
 
 pub returns-in-Ok : goal.returns-in-Ok

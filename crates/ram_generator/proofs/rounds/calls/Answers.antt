@@ -2,7 +2,7 @@
 use Rattle.std.proofs.Common.{refl, subst}
 use Rattle.ram_generator.specs.Turns.{cut_of}
 use Rattle.ram_generator.specs.Sessions.{RunsTo}
-use Rattle.ram_generator.proofs.Rounding.{calls_drawn}
+use Rattle.ram_generator.proofs.RoundCalls.{calls_drawn}
 use Rattle.ram_generator.proofs.rounds.calls.Goals as goal
 
 pub returns-clause-called : goal.returns-clause-called

@@ -3,7 +3,7 @@ use Rattle.std.proofs.Common.{subst}
 use Rattle.std.proofs.lemmas.Result.{IfOk-weaker}
 use Rattle.script_spec.specs.Generated.{drawn_calls}
 use Rattle.ram_generator.specs.Sessions.{RunsTo}
-use Rattle.ram_generator.proofs.Rounding.{round_is}
+use Rattle.ram_generator.proofs.RoundCalls.{round_is}
 use Rattle.ram_generator.proofs.rounds.round.Goals as goal
 
 pub returns-clause-round : goal.returns-clause-round

@@ -3,7 +3,7 @@ use Rattle.std.proofs.Common.{◌≡◌, ◌+◌, ◌^◌, arith}
 use Rattle.script_spec.specs.Generated.{turn}
 use Rattle.ram_generator.specs.Turns.{turn_of}
 use Rattle.ram_generator.proofs.Over.{way_start, way_more, way_end, grown_both, below_grown}
-use Rattle.ram_generator.proofs.Rounding.{turn_goes}
+use Rattle.ram_generator.proofs.RoundCalls.{turn_goes}
 use Rattle.ram_generator.proofs.rounds.turns.Goals as goal
 
 pub turns-init : goal.turns-init

@@ -3,7 +3,7 @@ use Rattle.std.proofs.Common.{[], ◌∷◌, length-append, refl, ◌∙◌, rul
 use Rattle.std.proofs.lemmas.Iterator.Adapters.{YieldsList-from_vec}
 use Rattle.std.proofs.lemmas.Iterator.Consumers.{YieldsList-end}
 use Rattle.script.proofs.Taken.{line_taken}
-use Rattle.tool_laws.proofs.Sound.{states_sound}
+use Rattle.script_laws.proofs.SoundStates.{states_sound}
 use Rattle.ram_session.proofs.ScriptLines.{plays_none, plays_next, plays_stop, plays_all}
 use Rattle.ram_session.specs.declared.machine.Machine.TheVariants.{Off}
 use Rattle.ram_session.proofs.playing.play.Goals as goal

@@ -1,5 +1,5 @@
 -- Bytes that are no UTF-8 name nothing
-use Rattle.ram_session.proofs.Called.{no-text}
+use Rattle.ram_session.proofs.NamedRecord.{no-text}
 use Rattle.ram_session.proofs.record_lines.name_of.Goals as goal
 
 pub returns-in-Err-clause-name : goal.returns-in-Err-clause-name

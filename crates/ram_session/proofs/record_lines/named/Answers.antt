@@ -1,7 +1,7 @@
 -- A text names a listed record where it is a name's text and a record of that name has a length
 use Rattle.std.proofs.Common.{◌∙◌}
 use Rattle.prz_read.specs.Saving.{saved}
-use Rattle.ram_session.proofs.Called.{all-small, nothing-named, not-listed, is-listed}
+use Rattle.ram_session.proofs.NamedRecord.{all-small, nothing-named, not-listed, is-listed}
 use Rattle.ram_session.proofs.record_lines.named.Goals as goal
 
 pub returns-in_err-name : goal.returns-in_err-name

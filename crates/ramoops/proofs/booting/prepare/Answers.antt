@@ -4,9 +4,9 @@ use Rattle.std.proofs.Common.{◌<◌, List, length, get_or, slice_get, ap, ◌�
 use Rattle.std.specs.Option.{option_copied}
 use Rattle.zone_spec.specs.declared.Zone.{Zone}
 use Rattle.ramoops_layout.specs.Laid.{zones_of}
-use Rattle.prz_region.proofs.Cutting.{no_zone}
+use Rattle.prz_region.proofs.CutLoop.{no_zone}
 use Rattle.ramoops.specs.OffSeen.{known_or, known_all}
-use Rattle.ramoops.proofs.Preparing.{span_at, known_got, prepares_next}
+use Rattle.ramoops.proofs.BootReading.{span_at, known_got, prepares_next}
 use Rattle.ramoops.proofs.booting.prepare.Goals as goal
 
 pub add-requires-clause-valid : goal.add-requires-clause-valid

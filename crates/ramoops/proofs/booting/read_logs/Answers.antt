@@ -3,8 +3,8 @@
 use Rattle.std.proofs.Common.{◌≡◌, ℕ, List, get_or, slice_get, length, ap, subst, ◌∙◌, arith}
 use Rattle.zone_spec.specs.declared.Zone.{Zone}
 use Rattle.ramoops_layout.specs.Laid.{zones_of}
-use Rattle.prz_region.proofs.Cutting.{no_zone}
-use Rattle.ramoops.proofs.Preparing.{LogsTo, span_at, logs_none, logs_next, logs_whole}
+use Rattle.prz_region.proofs.CutLoop.{no_zone}
+use Rattle.ramoops.proofs.BootReading.{LogsTo, span_at, logs_none, logs_next, logs_whole}
 use Rattle.ramoops.proofs.booting.read_logs.Goals as goal
 
 pub loop-i-init : goal.loop-i-init

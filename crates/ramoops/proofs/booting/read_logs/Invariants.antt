@@ -1,6 +1,6 @@
 -- The logs are those of the first `i` zones. For the loop of `read_logs`.
 use Rattle.ramoops_layout.specs.Laid.{zones_of}
-use Rattle.ramoops.proofs.Preparing.{LogsTo}
+use Rattle.ramoops.proofs.BootReading.{LogsTo}
 use Rattle.ramoops.proofs.booting.read_logs.Given as goal
 
 abbrev pub invariant-loop-i : goal.invariant-loop-i

@@ -3,7 +3,7 @@ use Rattle.std.proofs.Common.{◌≡◌, ℕ, List, length, subst, slice_get, ap
 use Rattle.zone_spec.specs.declared.Zone.{Zone}
 use Rattle.ramoops_layout.specs.Laid.{zones_of}
 use Rattle.ramoops.specs.Booting.{SettlesTo}
-use Rattle.ramoops.proofs.Settling.{settles_none, settles_next, next_zone, zone_is}
+use Rattle.ramoops.proofs.BootStores.{settles_none, settles_next, next_zone, zone_is}
 use Rattle.ramoops.proofs.booting.settle_all.Goals as goal
 
 pub loop-i-init : goal.loop-i-init

@@ -5,8 +5,8 @@ use Rattle.zone_spec.specs.declared.Zone.{Zone}
 use Rattle.ramoops_layout.specs.Laid.{zones_of}
 use Rattle.ramoops.specs.declared.booting.Passed.{Passed}
 use Rattle.ramoops.specs.Parting.{PartsTo}
-use Rattle.ramoops.proofs.Settling.{next_zone, zone_is}
-use Rattle.ramoops.proofs.Parting.{parts_none, parts_next}
+use Rattle.ramoops.proofs.BootStores.{next_zone, zone_is}
+use Rattle.ramoops.proofs.CutBoot.{parts_none, parts_next}
 use Rattle.ramoops.proofs.booting.settle_part.Goals as goal
 
 pub loop-i-init : goal.loop-i-init

@@ -1,7 +1,7 @@
 -- A zone of which nothing is known more changes nothing that is known. For the loop of `list_all`.
 use Rattle.std.proofs.Common.{sym, ap, ◌∙◌, arith}
 use Rattle.ramoops.specs.OffSeen.{known_all}
-use Rattle.ramoops.proofs.Listed.{all_listed, all_more}
+use Rattle.ramoops.proofs.KnownZones.{all_listed, all_more}
 use Rattle.ramoops.proofs.known.list_all.Goals as goal
 
 pub loop-known-preserved : goal.loop-known-preserved

@@ -4,7 +4,7 @@ use Rattle.std.proofs.Common.{refl, sym, ◌∙◌, arith, inl, inr, true≢fals
 use Rattle.std.proofs.lemmas.Bool.{cases_lt}
 use Rattle.std.specs.Vec.{vec_len}
 use Rattle.ramoops.specs.declared.booting.Passed.{Passed}
-use Rattle.ramoops.proofs.Passing.{passed_none, passed_next, passed_all}
+use Rattle.ramoops.proofs.ZonesFromLast.{passed_none, passed_next, passed_all}
 use Rattle.ramoops.proofs.known.pass_all.Goals as goal
 
 -- what a slice gives outside its length

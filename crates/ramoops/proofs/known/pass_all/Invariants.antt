@@ -1,7 +1,7 @@
 -- The zones from here on are passed, those before stand as at the start. For the loop of
 -- `pass_all`.
 use Rattle.std.specs.Vec.{vec_len}
-use Rattle.ramoops.proofs.Passing.{IsPassedTo}
+use Rattle.ramoops.proofs.ZonesFromLast.{IsPassedTo}
 use Rattle.ramoops.proofs.known.pass_all.Given as goal
 
 abbrev pub invariant-loop-zone : goal.invariant-loop-zone

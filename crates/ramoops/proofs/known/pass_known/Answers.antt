@@ -5,7 +5,7 @@ use Rattle.std_alloc.specs.Vec.{with_items}
 use Rattle.ramoops.specs.declared.known.KnownZone.{KnownZone}
 use Rattle.ramoops.specs.OffSeen.{known_all}
 use Rattle.ramoops.specs.Parted.{IsParted}
-use Rattle.ramoops.proofs.Listed.{all_len}
+use Rattle.ramoops.proofs.KnownZones.{all_len}
 use Rattle.ramoops.proofs.known.pass_known.Goals as goal
 use Rattle.ramoops.proofs.known.pass_known.Goals.{After-deref_mut}
 

@@ -6,7 +6,7 @@ use Rattle.std.specs.Prelude.{slice_get, option_to_list}
 use Rattle.zone_spec.specs.declared.ZoneName.{ZoneName}
 use Rattle.zone_spec.specs.Records.{Saved}
 use Rattle.ramoops_layout.specs.Laid.{NamesDiffer}
-use Rattle.ramoops.proofs.Refilled.{refills_none, refills_nowhere, refills_next}
+use Rattle.ramoops.proofs.FilledStates.{refills_none, refills_nowhere, refills_next}
 use Rattle.ramoops.proofs.rebuilding.refill.Goals as goal
 
 -- the zone's name

@@ -4,7 +4,7 @@ use Rattle.std.proofs.lemmas.List.{take_all}
 use Rattle.zone_spec.specs.Records.{Saved}
 use Rattle.prz_read.specs.Saving.{saved}
 use Rattle.ramoops.specs.Refilling.{RefillsAll}
-use Rattle.ramoops.proofs.Refilled.{refills_nothing, refills_more}
+use Rattle.ramoops.proofs.FilledStates.{refills_nothing, refills_more}
 use Rattle.ramoops.proofs.rebuilding.refill_all.Goals as goal
 
 pub loop-i-init : goal.loop-i-init

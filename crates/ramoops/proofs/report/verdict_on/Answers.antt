@@ -7,7 +7,8 @@ use Rattle.zone_spec.specs.Verdicts.{verdict_of}
 use Rattle.std.specs.List.{common_prefix_len}
 use Rattle.machine_laws.proofs.Boots.{verdict_is_exact, verdict_differs}
 use Rattle.ramoops.proofs.Prefixes.{common_whole, common_same}
-use Rattle.ramoops.proofs.report.verdict_on.Goals.{else-first-told_len-via-then-first-told_len+else-first-seen, else-first-told_len-via-else-first-told_len}
+use Rattle.ramoops.proofs.report.verdict_on.Goals.{else-first-told_len-via-then-first-told_len+else-first-seen}
+use Rattle.ramoops.proofs.report.verdict_on.Goals.{else-first-told_len-via-else-first-told_len}
 use Rattle.ramoops.proofs.report.verdict_on.Goals as goal
 
 pub returns-then-first-seen : goal.returns-then-first-seen

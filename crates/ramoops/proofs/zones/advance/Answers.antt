@@ -8,7 +8,7 @@ use Rattle.prz_region.specs.CutRegion.{span}
 use Rattle.prz_region.proofs.Cuts.{stored-none}
 use Rattle.ramoops.specs.LiveSeen.{StandsForZone, StandsForSome}
 use Rattle.ramoops.specs.Storing.{CanStore, HasParity}
-use Rattle.ramoops.proofs.Storing.{Steps, stored, ended, no_last, last_is, next_made, none_made}
+use Rattle.ramoops.proofs.FlightStores.{Steps, stored, ended, no_last, last_is, next_made, none_made}
 use Rattle.ramoops.proofs.zones.advance.Goals as goal
 use Rattle.ramoops.proofs.zones.advance.Goals.{After-advance}
 

@@ -1,7 +1,7 @@
 -- A flight that is begun stands, or ends at once if it has no store
 use Rattle.std.proofs.Common.{arith, refl}
 use Rattle.prz_write.specs.Calls.{call_seen}
-use Rattle.ramoops.proofs.Starting.{Begins, begun_some, begun_none}
+use Rattle.ramoops.proofs.FlightStart.{Begins, begun_some, begun_none}
 use Rattle.ramoops.proofs.zones.start.Goals as goal
 use Rattle.ramoops.proofs.zones.start.Goals.{After-begin-flight}
 

@@ -2,7 +2,8 @@
 use Rattle.std.proofs.Common.{◌∙◌, sym}
 use Rattle.ramoops_layout.proofs.Texts.{number_hex, number_octal, number_decimal, short_zero, no_zero}
 use Rattle.ramoops_layout.proofs.numbers.number.Goals as goal
-use Rattle.ramoops_layout.proofs.numbers.number.Goals.{in_default-behind-via-in-Some-behind+else-not-is_empty, in_default-behind-via-in_default-behind}
+use Rattle.ramoops_layout.proofs.numbers.number.Goals.{in_default-behind-via-in-Some-behind+else-not-is_empty}
+use Rattle.ramoops_layout.proofs.numbers.number.Goals.{in_default-behind-via-in_default-behind}
 
 pub returns-in-Some : goal.returns-in-Some
 returns-in-Some c = c.digits.ensures ∙ number_hex c.args.text.now c.behind.result c.behind-2.result

@@ -7,7 +7,8 @@ use Rattle.zone_spec.specs.declared.params.Row.{Row}
 use Rattle.zone_spec.specs.Layout.{zone_at}
 use Rattle.ramoops_layout.proofs.LaidOut.{any_here, any_past}
 use Rattle.ramoops_layout.proofs.rows.has_tight.Goals as goal
-use Rattle.ramoops_layout.proofs.rows.has_tight.Goals.{else-row-gt0-via-then-row-gt0+else-zone_at-lt-LEAST_CAPACITY, else-row-gt0-via-else-row-gt0}
+use Rattle.ramoops_layout.proofs.rows.has_tight.Goals.{else-row-gt0-via-then-row-gt0+else-zone_at-lt-LEAST_CAPACITY}
+use Rattle.ramoops_layout.proofs.rows.has_tight.Goals.{else-row-gt0-via-else-row-gt0}
 
 pub returns-then-zone_at-lt-LEAST_CAPACITY : goal.returns-then-zone_at-lt-LEAST_CAPACITY
 returns-then-zone_at-lt-LEAST_CAPACITY c =

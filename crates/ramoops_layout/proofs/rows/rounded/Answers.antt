@@ -2,7 +2,7 @@
 use Rattle.std.proofs.Common.{◌∙◌, sym, ap}
 use Rattle.std.proofs.lemmas.Nat.{one_shl}
 use Rattle.zone_spec.specs.Layout.{rounded}
-use Rattle.ramoops_layout.proofs.Rounding.{rounded_zero, rounded_power}
+use Rattle.ramoops_layout.proofs.PowersOfTwo.{rounded_zero, rounded_power}
 use Rattle.ramoops_layout.proofs.rows.rounded.Goals as goal
 
 pub returns-then-size-eq0 : goal.returns-then-size-eq0

@@ -2,11 +2,11 @@
 use Rattle.std.proofs.Common.{◌≡◌, ◌++◌, ◌∙◌, List, [], ◌∷◌, ℕ, codes, ap, subst}
 use Rattle.zone_spec.specs.Parts.{AreBytes}
 use Rattle.report_spec.specs.Packed.{RecordShown, readable}
-use Rattle.record_report.specs.Tellers.{as_told}
+use Rattle.region_report.specs.Tellers.{as_told}
 use Rattle.report_html.specs.Pieces.{Part, Words, parts}
 use Rattle.report_html.specs.Names.{link_parts}
 use Rattle.report_html.specs.Before.{time_after, line_below}
-use Rattle.report_html.proofs.Joined.{joined}
+use Rattle.report_html.proofs.PartSums.{joined}
 use Rattle.report_html.proofs.before.add_told.Goals as goal
 
 pub returns-clause-bytes : goal.returns-clause-bytes

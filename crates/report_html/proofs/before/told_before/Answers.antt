@@ -4,7 +4,7 @@ use Rattle.std.specs.Prelude.{Option}
 use Rattle.std.proofs.lemmas.List.{take_all}
 use Rattle.report_spec.specs.Packed.{RecordShown}
 use Rattle.report_spec.specs.Deaths.{DeathTold}
-use Rattle.record_report.specs.Tellers.{told_in}
+use Rattle.region_report.specs.Tellers.{told_in}
 use Rattle.report_html.specs.Before.{told_before}
 use Rattle.report_html.proofs.Earlier.{Held, next}
 use Rattle.report_html.proofs.before.told_before.Goals as goal

@@ -1,6 +1,6 @@
 -- What the records so far tell is held
 use Rattle.std.proofs.Common.{take}
-use Rattle.record_report.specs.Tellers.{told_in}
+use Rattle.region_report.specs.Tellers.{told_in}
 use Rattle.report_html.proofs.Earlier.{Held}
 use Rattle.report_html.proofs.before.told_before.Given as goal
 

@@ -4,7 +4,7 @@ use Rattle.report_spec.specs.Packed.{RecordShown}
 use Rattle.report_html.specs.Pieces.{Part, Words, parts}
 use Rattle.report_html.specs.Names.{link_parts}
 use Rattle.report_html.specs.Causes.{time_cell}
-use Rattle.report_html.proofs.Joined.{joined}
+use Rattle.report_html.proofs.PartSums.{joined}
 use Rattle.report_html.proofs.causes.add_dump.Goals as goal
 
 pub returns : goal.returns

@@ -7,7 +7,7 @@ use Rattle.report_html.specs.declared.causes.Crash.{Crash}
 use Rattle.report_html.specs.declared.pieces.Piece.{Piece}
 use Rattle.report_html.specs.Pieces.{Part, Words, Count, part_of, parts}
 use Rattle.report_html.specs.Causes.{CrashShown, newest_cells, crash_in, crashes_in}
-use Rattle.report_html.proofs.Joined.{joined}
+use Rattle.report_html.proofs.PartSums.{joined}
 use Rattle.report_html.proofs.causes.add_row.Goals as goal
 
 pub returns : goal.returns

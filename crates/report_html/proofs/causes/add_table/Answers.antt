@@ -3,8 +3,9 @@ use Rattle.std.proofs.Common.{◌≡◌, ◌∙◌, ◌++◌, ◌∷◌, [], Lis
 use Rattle.std.specs.Prelude.{filter, flat_map}
 use Rattle.report_html.specs.declared.causes.Crash.{Crash}
 use Rattle.report_html.specs.Pieces.{Part, Words, parts}
-use Rattle.report_html.specs.Causes.{CrashShown, causes_words, cause_parts, rows_of, has_no_row, others_parts, crashes_in}
-use Rattle.report_html.proofs.Joined.{joined}
+use Rattle.report_html.specs.Causes.{CrashShown, causes_words, cause_parts, rows_of, has_no_row, others_parts}
+use Rattle.report_html.specs.Causes.{crashes_in}
+use Rattle.report_html.proofs.PartSums.{joined}
 use Rattle.report_html.proofs.causes.add_table.Goals as goal
 
 pub returns : goal.returns

@@ -4,12 +4,12 @@ use Rattle.zone_spec.specs.Parts.{AreBytes}
 use Rattle.report_spec.specs.Packed.{RecordShown, readable}
 use Rattle.std.specs.Prelude.{Option}
 use Rattle.report_spec.specs.Newest.{console_of}
-use Rattle.record_report.specs.Tellers.{as_told}
+use Rattle.region_report.specs.Tellers.{as_told}
 use Rattle.report_html.specs.Pieces.{Part, Words, parts}
 use Rattle.report_html.specs.Died.{when_parts, context_parts, console_words, teller_parts, around_parts}
 use Rattle.report_html.specs.Before.{told_before, before_parts}
 use Rattle.report_html.specs.Escaping.{TellsBytes}
-use Rattle.report_html.proofs.Joined.{joined}
+use Rattle.report_html.proofs.PartSums.{joined}
 use Rattle.report_html.proofs.died.add_death.Goals as goal
 
 pub returns-clause-bytes : goal.returns-clause-bytes

@@ -3,7 +3,7 @@ use Rattle.std.proofs.Common.{◌≡◌, ◌∙◌, ◌++◌, ◌∷◌, [], ℕ
 use Rattle.report_html.specs.Pieces.{Part, Words, Bytes, parts}
 use Rattle.report_html.specs.Died.{second_parts}
 use Rattle.death_spec.specs.Lines.{part}
-use Rattle.report_html.proofs.Joined.{joined}
+use Rattle.report_html.proofs.PartSums.{joined}
 use Rattle.report_html.proofs.died.add_said.Goals as goal
 
 pub returns : goal.returns

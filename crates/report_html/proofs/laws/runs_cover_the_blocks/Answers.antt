@@ -1,6 +1,6 @@
 -- The runs of the blocks cover them in order, none is empty, and each block reads as its run does.
--- By `Covered`.
-use Rattle.report_html.proofs.Covered.{cover, states}
+-- By `RunsOfBlocks`.
+use Rattle.report_html.proofs.RunsOfBlocks.{cover, states}
 use Rattle.report_html.proofs.laws.runs_cover_the_blocks.Goals as goal
 
 pub returns-clause-cover : goal.returns-clause-cover

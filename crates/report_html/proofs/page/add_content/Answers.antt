@@ -2,7 +2,7 @@
 use Rattle.std.proofs.Common.{◌≡◌, ◌++◌, ◌∷◌, [], List, codes}
 use Rattle.report_html.specs.Pieces.{Part, Words, Log, parts}
 use Rattle.report_html.specs.Names.{name_parts}
-use Rattle.report_html.proofs.Joined.{joined}
+use Rattle.report_html.proofs.PartSums.{joined}
 use Rattle.report_html.proofs.page.add_content.Goals as goal
 
 pub returns-clause-bytes : goal.returns-clause-bytes

@@ -2,8 +2,8 @@
 use Rattle.std.proofs.Common.{arith}
 use Rattle.prz_read.specs.Saving.{saved}
 use Rattle.report_html.specs.Pieces.{parts}
-use Rattle.report_html.proofs.Foreign.{held_next, held_all}
-use Rattle.report_html.proofs.Grouped.{listed_on, listed_all}
+use Rattle.report_html.proofs.ForeignParts.{held_next, held_all}
+use Rattle.report_html.proofs.RecordGroups.{listed_on, listed_all}
 use Rattle.report_html.proofs.page.add_each.Goals as goal
 
 pub loop-held-preserved : goal.loop-held-preserved

@@ -8,7 +8,7 @@ use Rattle.report_html.specs.Listed.{say_parts, fold_parts}
 use Rattle.prz_read.specs.Saving.{saved}
 use Rattle.report_html.specs.Reads.{read_parts}
 use Rattle.report_html.specs.Pages.{length_parts, packing_parts, content_parts}
-use Rattle.report_html.proofs.Joined.{joined}
+use Rattle.report_html.proofs.PartSums.{joined}
 use Rattle.report_html.proofs.page.add_record.Goals as goal
 
 pub returns-clause-bytes : goal.returns-clause-bytes

@@ -3,7 +3,7 @@ use Rattle.std.proofs.Common.{◌∙◌, List, ap}
 use Rattle.report_html.specs.declared.pieces.Piece.{Piece}
 use Rattle.report_html.specs.Pieces.{Part, parts, parts_text}
 use Rattle.report_html.specs.Pages.{page_of}
-use Rattle.report_html.proofs.Foreign.{without_markup}
+use Rattle.report_html.proofs.ForeignParts.{without_markup}
 use Rattle.report_html.proofs.page.html.Goals as goal
 
 pub returns-clause-page : goal.returns-clause-page

@@ -2,7 +2,7 @@
 use Rattle.std.proofs.Common.{◌≡◌, ◌++◌, List, codes}
 use Rattle.report_html.specs.Pieces.{Part, parts}
 use Rattle.report_html.specs.Parameters.{parameter_parts}
-use Rattle.report_html.proofs.Joined.{joined}
+use Rattle.report_html.proofs.PartSums.{joined}
 use Rattle.report_html.proofs.parameters.add_parity.Goals as goal
 
 pub returns : goal.returns

@@ -2,7 +2,7 @@
 use Rattle.std.proofs.Common.{◌≡◌, ◌==◌, false, arith}
 use Rattle.std.proofs.lemmas.Bool.Decides.{nat_tests}
 use Rattle.report_html.specs.Pieces.{parts}
-use Rattle.report_html.proofs.Counted.{count-added}
+use Rattle.report_html.proofs.NonZeroCounts.{count-added}
 use Rattle.report_html.proofs.picture.add_count.Goals as goal
 
 pub returns : goal.returns

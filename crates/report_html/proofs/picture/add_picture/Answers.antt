@@ -6,7 +6,7 @@ use Rattle.zone_spec.specs.PartStates.{PartStates}
 use Rattle.report_html.specs.declared.spots.Spot.{Spot}
 use Rattle.report_html.specs.Spots.{spots_of, spots_parts}
 use Rattle.report_html.specs.Pictures.{region_opening, width_of, all_drawn, key_words, table_words}
-use Rattle.report_html.proofs.Joined.{joined}
+use Rattle.report_html.proofs.PartSums.{joined}
 use Rattle.report_html.proofs.picture.add_picture.Goals as goal
 
 pub returns : goal.returns

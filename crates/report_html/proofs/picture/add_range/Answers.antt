@@ -2,7 +2,7 @@
 use Rattle.std.proofs.Common.{◌≡◌, ◌∙◌, ◌++◌, ◌∷◌, [], List, ℕ, ap, codes}
 use Rattle.report_html.specs.Pieces.{Part, Words, parts}
 use Rattle.report_html.specs.Pictures.{numbers_parts, blocks_word}
-use Rattle.report_html.proofs.Joined.{joined}
+use Rattle.report_html.proofs.PartSums.{joined}
 use Rattle.report_html.proofs.picture.add_range.Goals as goal
 
 pub returns : goal.returns

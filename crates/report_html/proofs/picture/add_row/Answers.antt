@@ -3,7 +3,7 @@ use Rattle.std.proofs.Common.{◌≡◌, ◌∙◌, ◌++◌, ◌∷◌, [], ℕ
 use Rattle.report_html.specs.Pieces.{Part, Words, Count, parts}
 use Rattle.std.specs.Option.{option_copied}
 use Rattle.report_html.specs.Pictures.{zone_name, read_words, read_cells, cell}
-use Rattle.report_html.proofs.Joined.{joined}
+use Rattle.report_html.proofs.PartSums.{joined}
 use Rattle.report_html.proofs.picture.add_row.Goals as goal
 
 pub returns : goal.returns

@@ -3,7 +3,7 @@ use Rattle.std.proofs.Common.{◌≡◌, ◌∙◌, ap}
 use Rattle.std.specs.Option.{option_copied}
 use Rattle.zone_spec.specs.PartStates.{PartStates}
 use Rattle.report_html.specs.Pieces.{parts}
-use Rattle.report_html.proofs.Drawn.{zone-added}
+use Rattle.report_html.proofs.PictureZones.{zone-added}
 use Rattle.report_html.proofs.picture.add_zone.Goals as goal
 
 pub returns : goal.returns

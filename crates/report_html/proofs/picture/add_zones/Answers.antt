@@ -13,7 +13,7 @@ use Rattle.prz_read.specs.Saving.{SavedLogs, saved}
 use Rattle.pstore_records.proofs.Steps.{collected-more, collected-all}
 use Rattle.report_html.specs.Pieces.{Part, parts}
 use Rattle.report_html.specs.Pictures.{drawn_parts, width_of}
-use Rattle.report_html.proofs.Drawn.{no_zone, read-at, drawn, all-count}
+use Rattle.report_html.proofs.PictureZones.{no_zone, read-at, drawn, all-count}
 use Rattle.report_html.proofs.picture.add_zones.Goals as goal
 
 pub loop-i-preserved : goal.loop-i-preserved

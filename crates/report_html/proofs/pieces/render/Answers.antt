@@ -4,7 +4,7 @@ use Rattle.std.specs.Prelude.{flat_map}
 use Rattle.std.proofs.lemmas.List.{take_all}
 use Rattle.report_html.specs.declared.pieces.Piece.{Piece}
 use Rattle.report_html.specs.Pieces.{piece_text}
-use Rattle.report_html.proofs.Rendered.{rendered}
+use Rattle.report_html.proofs.PieceTexts.{rendered}
 use Rattle.report_html.proofs.pieces.render.Goals as goal
 
 pub returns : goal.returns

@@ -2,7 +2,7 @@
 use Rattle.std.proofs.Common.{◌≡◌, ◌∙◌, ◌++◌, ◌∷◌, [], ℕ, List, ap, codes}
 use Rattle.report_html.specs.Pieces.{Part, Words, Count, parts}
 use Rattle.report_html.specs.Pictures.{label_opening, zone_name}
-use Rattle.report_html.proofs.Joined.{joined}
+use Rattle.report_html.proofs.PartSums.{joined}
 use Rattle.report_html.proofs.region.add_fitting.Goals as goal
 
 pub returns : goal.returns

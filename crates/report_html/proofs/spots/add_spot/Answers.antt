@@ -4,7 +4,7 @@ use Rattle.report_html.specs.Pieces.{Part, Words, Count, parts}
 use Rattle.report_html.specs.declared.spots.Spot.{Spot}
 use Rattle.report_html.specs.Pictures.{zone_name, cell}
 use Rattle.report_html.specs.Spots.{stretch_parts, place_of, size_of, verdict_parts}
-use Rattle.report_html.proofs.Joined.{joined}
+use Rattle.report_html.proofs.PartSums.{joined}
 use Rattle.report_html.proofs.spots.add_spot.Goals as goal
 
 pub returns : goal.returns

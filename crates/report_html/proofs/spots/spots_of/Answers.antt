@@ -8,8 +8,8 @@ use Rattle.std.proofs.lemmas.Slice.Zip.{length-zip}
 use Rattle.zone_spec.specs.declared.Zone.{Zone}
 use Rattle.zone_spec.specs.PartStates.{PartStates}
 use Rattle.report_html.specs.Spots.{zone_spots}
-use Rattle.report_html.proofs.Drawn.{no_zone}
-use Rattle.report_html.proofs.Spotted.{spotted}
+use Rattle.report_html.proofs.PictureZones.{no_zone}
+use Rattle.report_html.proofs.DamagedSpots.{spotted}
 use Rattle.report_html.proofs.spots.spots_of.Goals as goal
 
 pub loop-i-preserved : goal.loop-i-preserved

@@ -3,7 +3,7 @@ use Rattle.std.proofs.Common.{◌≡◌, ◌++◌, ◌∷◌, [], List, codes}
 use Rattle.report_html.specs.Pieces.{Part, Words, parts}
 use Rattle.report_html.specs.Warnings.{opening, closing}
 use Rattle.report_html.specs.Names.{link_parts}
-use Rattle.report_html.proofs.Joined.{joined}
+use Rattle.report_html.proofs.PartSums.{joined}
 use Rattle.report_html.proofs.warnings.add_lacking.Goals as goal
 
 pub returns : goal.returns

@@ -1,7 +1,7 @@
 -- A zone with its reading and its parts at one place has the value of all three. For `value_at`.
 use Rattle.std.proofs.Common.{◌≡◌, ◌∙◌, ℕ, length, get_or, Option, Some, None, refl, sym, ap, arith}
 use Rattle.std.proofs.lemmas.Option.{slice_get-get_or, slice_get_read}
-use Rattle.prz_region.proofs.Cutting.{no_zone}
+use Rattle.prz_region.proofs.CutLoop.{no_zone}
 use Rattle.zone_spec.specs.Reading.{ZoneReading}
 use Rattle.report_json.specs.Schema.{zone_data}
 use Rattle.report_json.proofs.Places.{beside, if_ok}

@@ -2,7 +2,7 @@
 use Rattle.std.proofs.Common.{◌≡◌, ◌∙◌, ◌++◌, ℕ, List, ap, subst}
 use Rattle.std.proofs.lemmas.Result.{on_ok_weaker}
 use Rattle.report_spec.specs.Packed.{RecordShown, readable}
-use Rattle.record_report.specs.Tellers.{as_told}
+use Rattle.region_report.specs.Tellers.{as_told}
 use Rattle.report_text.specs.Pieces.{parts}
 use Rattle.report_text.specs.Tables.{Adds, name_parts}
 use Rattle.report_text.specs.Died.{IsWhen, said_parts, context_parts}

@@ -2,9 +2,11 @@
 use Rattle.std.proofs.Common.{◌≡◌, ◌++◌, [], arith}
 use Rattle.report_text.specs.Pieces.{parts}
 use Rattle.report_text.specs.Tails.{rows_from, rows_parts}
-use Rattle.report_text.proofs.Cut.{newline-step, full-step, byte-step, last-step, end-step}
+use Rattle.report_text.proofs.RowCuts.{newline-step, full-step, byte-step, last-step, end-step}
 use Rattle.report_text.proofs.lines.add_rows.Goals as goal
-use Rattle.report_text.proofs.lines.add_rows.Goals.{then-b-eq10+in_ok-add_row, else-b-eq10+then-taken-next-gt-COLUMNS+in_ok-add_row-2, else-b-eq10+else-taken-next-gt-COLUMNS}
+use Rattle.report_text.proofs.lines.add_rows.Goals.{then-b-eq10+in_ok-add_row}
+use Rattle.report_text.proofs.lines.add_rows.Goals.{else-b-eq10+then-taken-next-gt-COLUMNS+in_ok-add_row-2}
+use Rattle.report_text.proofs.lines.add_rows.Goals.{else-b-eq10+else-taken-next-gt-COLUMNS}
 
 pub loop-i-preserved : goal.loop-i-preserved
 loop-i-preserved c =

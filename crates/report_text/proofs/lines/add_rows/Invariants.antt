@@ -3,7 +3,7 @@ use Rattle.std.proofs.Common.{◌≤◌, ◌++◌, [], drop}
 use Rattle.std.specs.Prelude.{slice_range}
 use Rattle.report_text.specs.Pieces.{parts}
 use Rattle.report_text.specs.Tails.{rows_from, rows_parts}
-use Rattle.report_text.proofs.Cut.{IsLeft}
+use Rattle.report_text.proofs.RowCuts.{IsLeft}
 use Rattle.report_text.proofs.lines.add_rows.Given as goal
 
 abbrev pub invariant-loop-i : goal.invariant-loop-i

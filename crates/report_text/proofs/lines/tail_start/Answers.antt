@@ -2,9 +2,11 @@
 use Rattle.std.proofs.Common.{ap, sym, ◌∙◌, arith}
 use Rattle.std.proofs.Math.Seq.{drop-length}
 use Rattle.report_text.specs.Tails.{last_lines}
-use Rattle.report_text.proofs.Tailed.{none-behind, no-lines, first-wanted, line-more, no-line, no-line-at-end, whole-last}
+use Rattle.report_text.proofs.LastLines.{none-behind, no-lines, first-wanted, line-more, no-line, no-line-at-end}
+use Rattle.report_text.proofs.LastLines.{whole-last}
 use Rattle.report_text.proofs.lines.tail_start.Goals as goal
-use Rattle.report_text.proofs.lines.tail_start.Goals.{else-bytes-i-eq10-via-then-bytes-i-eq10+else-i-bytes, else-bytes-i-eq10-via-else-bytes-i-eq10}
+use Rattle.report_text.proofs.lines.tail_start.Goals.{else-bytes-i-eq10-via-then-bytes-i-eq10+else-i-bytes}
+use Rattle.report_text.proofs.lines.tail_start.Goals.{else-bytes-i-eq10-via-else-bytes-i-eq10}
 
 pub loop-i-init : goal.loop-i-init
 loop-i-init c = record {

@@ -2,7 +2,7 @@
 use Rattle.std.proofs.Common.{◌≡◌, ◌++◌, ◌-◌, ◌∙◌, List, ℕ, length, take, ap, ap₂}
 use Rattle.std.specs.Prelude.{min, decimal}
 use Rattle.report_spec.specs.Visible.{visible}
-use Rattle.report_text.proofs.Shown.{written-twice}
+use Rattle.report_text.proofs.VisibleBytes.{written-twice}
 use Rattle.report_text.proofs.pieces.push_filled.Goals as goal
 
 pub returns-clause-bytes : goal.returns-clause-bytes

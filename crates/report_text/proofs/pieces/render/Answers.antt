@@ -4,7 +4,7 @@ use Rattle.std.specs.Prelude.{flat_map}
 use Rattle.std.proofs.lemmas.List.{take_all}
 use Rattle.report_text.specs.declared.pieces.Piece.{Piece}
 use Rattle.report_text.specs.Pieces.{piece_text}
-use Rattle.report_text.proofs.Rendered.{rendered}
+use Rattle.report_text.proofs.PieceTexts.{rendered}
 use Rattle.report_text.proofs.pieces.render.Goals as goal
 
 pub returns-clause-text : goal.returns-clause-text

@@ -3,7 +3,7 @@ use Rattle.std.proofs.Common.{◌++◌, ◌∙◌, List, ℕ, ap, sym, arith}
 use Rattle.std.specs.Prelude.{flat_map}
 use Rattle.std.proofs.lemmas.List.{take_all}
 use Rattle.report_spec.specs.Visible.{visible_byte}
-use Rattle.report_text.proofs.Shown.{visible-is}
+use Rattle.report_text.proofs.VisibleBytes.{visible-is}
 use Rattle.report_text.proofs.visible.push_visible.Goals as goal
 
 pub returns-clause-bytes : goal.returns-clause-bytes

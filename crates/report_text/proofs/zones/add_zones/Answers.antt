@@ -4,7 +4,7 @@ use Rattle.std.specs.Prelude.{flat_map, slice_get}
 use Rattle.std.specs.Option.{option_copied, option_map}
 use Rattle.std.proofs.lemmas.List.Concat.{flat_map-append}
 use Rattle.std.proofs.lemmas.Option.{slice_get-get_or}
-use Rattle.prz_region.proofs.Cutting.{no_zone}
+use Rattle.prz_region.proofs.CutLoop.{no_zone}
 use Rattle.zone_spec.specs.declared.Zone.{Zone}
 use Rattle.zone_spec.specs.Records.{Saved}
 use Rattle.prz_read.specs.Saving.{saved}

@@ -1,6 +1,6 @@
 -- The plan's zones are whole in the memory that is read
 use Rattle.std.proofs.Common.{◌≡◌, ◌∙◌, length, sym, ap}
-use Rattle.report_tool.proofs.Whole.{whole}
+use Rattle.report_tool.proofs.PlanZones.{whole}
 use Rattle.report_tool.proofs.images.read.Goals as goal
 
 pub report_of_zones-requires-clause-whole : goal.report_of_zones-requires-clause-whole

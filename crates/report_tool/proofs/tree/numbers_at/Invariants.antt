@@ -1,7 +1,7 @@
 -- The loop of `numbers_at`: no node that was passed over has the path.
 use Rattle.std.proofs.Common.{◌≡◌, drop, find, map}
 use Rattle.std.specs.Str.{bytes_eq}
-use Rattle.dtb.specs.Told.{shown}
+use Rattle.dtb.specs.ReaderAnswers.{shown}
 use Rattle.report_tool.specs.Trees.{numbers_found}
 use Rattle.report_tool.proofs.tree.numbers_at.Given as goal
 

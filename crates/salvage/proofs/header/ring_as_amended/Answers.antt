@@ -3,7 +3,7 @@
 use Rattle.std.proofs.Common.{◌≡◌, ◌++◌, ◌∙◌, length, sym, ap, true, false, ℕ}
 use Rattle.std.proofs.lemmas.Bool.{false_from_ne_true}
 use Rattle.code_spec.specs.Code.{is_codeword}
-use Rattle.salvage.proofs.Probed.{amended_unlike, amended_same, amended_other}
+use Rattle.salvage.proofs.HeaderSums.{amended_unlike, amended_same, amended_other}
 use Rattle.salvage.proofs.header.ring_as_amended.Goals as goal
 
 pub returns-in_err-ring : goal.returns-in_err-ring

@@ -4,7 +4,7 @@ use Rattle.std.proofs.Common.{◌≡◌, ℕ, ◌-◌, ◌/◌, List, length, ar
 use Rattle.zone_spec.specs.declared.Zone.{Zone}
 use Rattle.salvage_laws.specs.Known.{known}
 use Rattle.salvage.specs.Sieves.{Sifted, IsSieveOf}
-use Rattle.salvage.proofs.Probed.{probe_far, probe_is, probe_many, probe_near, zeros_none}
+use Rattle.salvage.proofs.HeaderSums.{probe_far, probe_is, probe_many, probe_near, zeros_none}
 use Rattle.salvage.proofs.header.ring_by.Goals as goal
 
 sieve_of : (z : Zone) (o : Option Sifted) (s : Sifted) → o ≡ Some s → IsSieveOf z o

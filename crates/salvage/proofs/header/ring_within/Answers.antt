@@ -1,7 +1,7 @@
 -- A clean, a fixed and a bad word each give the near codeword's ring, or none. For `ring_within`.
 use Rattle.std.proofs.Common.{ℕ, ◌+◌, ◌≤◌, List, length, ◌++◌, refl, arith}
 use Rattle.code_spec.specs.Code.{nearest}
-use Rattle.salvage.proofs.Probed.{near_bad, near_clean, near_fixed, fixed_few}
+use Rattle.salvage.proofs.HeaderSums.{near_bad, near_clean, near_fixed, fixed_few}
 use Rattle.salvage.proofs.header.ring_within.Goals as goal
 
 pub returns-in-Clean : goal.returns-in-Clean

@@ -1,7 +1,7 @@
 -- A shape with no ring here is passed, and one with a ring is the first. For `first_at`.
 use Rattle.std.proofs.Common.{◌*◌, ◌∙◌, sym}
 use Rattle.salvage_spec.specs.Rings.{ring_at}
-use Rattle.salvage.proofs.Listing.{passed, found_one, ended}
+use Rattle.salvage.proofs.ScanRest.{passed, found_one, ended}
 use Rattle.salvage.proofs.scan.first_at.Goals as goal
 
 pub loop-index-preserved : goal.loop-index-preserved

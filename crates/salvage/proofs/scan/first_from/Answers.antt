@@ -1,7 +1,7 @@
 -- A place with no ring is passed, and one with a ring has the first. For `first_from`.
 use Rattle.std.proofs.Common.{ℕ, ◌∷◌, ◌+◌, ◌∙◌, ap, sym, arith}
 use Rattle.salvage.specs.Scans.{rings_from}
-use Rattle.salvage.proofs.Listing.{next_place, here, past_end}
+use Rattle.salvage.proofs.ScanRest.{next_place, here, past_end}
 use Rattle.salvage.proofs.scan.first_from.Goals as goal
 
 pub loop-present-preserved : goal.loop-present-preserved

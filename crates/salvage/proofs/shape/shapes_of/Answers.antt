@@ -4,7 +4,7 @@ use Rattle.std.proofs.lemmas.List.{drop_more}
 use Rattle.std.proofs.lemmas.Option.{slice_get-get_or}
 use Rattle.zone_spec.specs.declared.Zone.{Zone}
 use Rattle.salvage_spec.specs.Rings.{shapes}
-use Rattle.salvage.proofs.Gathered.{unlike, unlike_none, shapes_left, all_gathered}
+use Rattle.salvage.proofs.ZoneShapes.{unlike, unlike_none, shapes_left, all_gathered}
 use Rattle.salvage.proofs.shape.shapes_of.Goals as goal
 
 pub add_shape-requires : goal.add_shape-requires

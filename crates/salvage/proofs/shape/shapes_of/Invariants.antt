@@ -2,7 +2,7 @@
 -- loop of `shapes_of`.
 use Rattle.std.proofs.Common.{◌≡◌, ◌++◌, drop}
 use Rattle.salvage_spec.specs.Rings.{shapes}
-use Rattle.salvage.proofs.Gathered.{unlike}
+use Rattle.salvage.proofs.ZoneShapes.{unlike}
 use Rattle.salvage.proofs.shape.shapes_of.Given as goal
 
 abbrev pub invariant-loop-zone : goal.invariant-loop-zone

@@ -1,6 +1,6 @@
 -- All sums before the last are zero, and the last is not. For `are_factors`.
 use Rattle.std.proofs.Common.{sym, ◌∙◌, arith, below_more}
-use Rattle.salvage.proofs.Sieving.{unequal}
+use Rattle.salvage.proofs.BlockFactors.{unequal}
 use Rattle.salvage.proofs.sieve.are_factors.Goals as goal
 
 pub loop-l-preserved : goal.loop-l-preserved

@@ -1,7 +1,7 @@
 -- The header's bytes and their parity are a codeword with the known bytes. For `codeword_of`.
 use Rattle.std.proofs.Common.{ℕ, ap, ◌∙◌}
 use Rattle.code_spec.specs.Code.{parity_of}
-use Rattle.salvage.proofs.Sieving.{known_word}
+use Rattle.salvage.proofs.BlockFactors.{known_word}
 use Rattle.salvage.proofs.sieve.codeword_of.Goals as goal
 
 pub returns : goal.returns

@@ -1,6 +1,6 @@
 -- One product more is added. For `dot_at`.
 use Rattle.std.specs.Prelude.{slice_index}
-use Rattle.salvage.proofs.Sieving.{dot_begun, dot_next, dot_done}
+use Rattle.salvage.proofs.BlockFactors.{dot_begun, dot_next, dot_done}
 use Rattle.salvage.proofs.sieve.dot_at.Goals as goal
 
 pub loop-j-init : goal.loop-j-init

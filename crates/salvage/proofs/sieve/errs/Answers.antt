@@ -5,7 +5,7 @@ use Rattle.std.proofs.lemmas.List.{length-take-le}
 use Rattle.rs_encode.proofs.Lanes.{bytes_are_digits}
 use Rattle.salvage.specs.Sieves.{AreRows}
 use Rattle.salvage.proofs.Rows.{length-range, rows_taken}
-use Rattle.salvage.proofs.Sieving.{errors, block_sum}
+use Rattle.salvage.proofs.BlockFactors.{errors, block_sum}
 use Rattle.salvage.proofs.sieve.errs.Goals as goal
 
 pub sums_of-sums-requires-clause-word : goal.sums_of-sums-requires-clause-word

@@ -1,7 +1,7 @@
 -- A place more is outside and unknown, and its power is one of them, or it is not. For `powers_outside`.
 use Rattle.std.proofs.Common.{◌≡◌, ℕ, ◌-◌, List, [], ◌∷◌, ◌++◌, length, ap, sym, ◌∙◌, arith, below_more, true, false}
 use Rattle.salvage.specs.Sieves.{product}
-use Rattle.salvage.proofs.Sieving.{product_own, product_still}
+use Rattle.salvage.proofs.BlockFactors.{product_own, product_still}
 use Rattle.salvage.proofs.sieve.powers_outside.Goals as goal
 use Rattle.salvage.proofs.sieve.powers_outside.Goals.{then-is_other, else-is_other}
 

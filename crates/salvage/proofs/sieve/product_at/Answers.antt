@@ -3,7 +3,7 @@ use Rattle.std.proofs.Common.{ℕ, List, get_or, take, take_all, sym, ap, ap₂,
 use Rattle.std.proofs.lemmas.List.{take_more}
 use Rattle.code_spec.specs.Field.{gf_add, gf_mul}
 use Rattle.salvage.specs.Sieves.{product}
-use Rattle.salvage.proofs.Sieving.{product-none, product-push}
+use Rattle.salvage.proofs.BlockFactors.{product-none, product-push}
 use Rattle.salvage.proofs.sieve.product_at.Goals as goal
 
 pub loop-other-init : goal.loop-other-init

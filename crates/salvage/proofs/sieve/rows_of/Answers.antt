@@ -1,5 +1,6 @@
 -- One row more. For `rows_of`.
-use Rattle.std.proofs.Common.{[], ◌≢◌, ℕ, ◌+◌, ◌*◌, ◌/◌, sym, subst, ◌∙◌, arith, get_or, below_more, get_or-set_same, get_or-set_other, length-set}
+use Rattle.std.proofs.Common.{[], ◌≢◌, ℕ, ◌+◌, ◌*◌, ◌/◌, sym, subst, ◌∙◌, arith, get_or, below_more, get_or-set_same}
+use Rattle.std.proofs.Common.{get_or-set_other, length-set}
 use Rattle.std.proofs.lemmas.List.{get_or_default}
 use Rattle.rs_encode.specs.Lanes.{IsMultiple}
 use Rattle.salvage.specs.declared.sieve.Weight.{Weight}

@@ -6,7 +6,7 @@ use Rattle.rs_encode.proofs.Lanes.{digit-xor, digit-zero}
 use Rattle.rs_encode.specs.Lanes.{digit}
 use Rattle.salvage.specs.declared.sieve.Weight.{Weight}
 use Rattle.salvage.specs.Sieves.{none, sum_at}
-use Rattle.salvage.proofs.Sieving.{weighed_next, weighed_done}
+use Rattle.salvage.proofs.BlockFactors.{weighed_next, weighed_done}
 use Rattle.salvage.proofs.Rows.{count_row}
 use Rattle.salvage.proofs.sieve.sums_of.Goals as goal
 

@@ -2,7 +2,7 @@
 use Rattle.std.proofs.Common.{◌≢◌, ℕ, ap, ap₂, ◌∙◌, arith, below_more, get_or-set_same, get_or-set_other, length-set}
 use Rattle.code_spec.specs.Field.{gf_mul}
 use Rattle.salvage.specs.Sieves.{times_power}
-use Rattle.salvage.proofs.Sieving.{zeroth_is, next_power}
+use Rattle.salvage.proofs.BlockFactors.{zeroth_is, next_power}
 use Rattle.salvage.proofs.sieve.weight_at.Goals as goal
 
 pub loop-i-init : goal.loop-i-init

@@ -1,5 +1,6 @@
 -- One weight more is that of its power. For `weights_of`.
-use Rattle.std.proofs.Common.{◌≢◌, ◌-◌, ◌∙◌, arith, sym, subst, below_more, get_or-set_same, get_or-set_other, length-set}
+use Rattle.std.proofs.Common.{◌≢◌, ◌-◌, ◌∙◌, arith, sym, subst, below_more, get_or-set_same, get_or-set_other}
+use Rattle.std.proofs.Common.{length-set}
 use Rattle.salvage.specs.Sieves.{IsWeight, none}
 use Rattle.salvage.specs.declared.sieve.Weight.{Weight}
 use Rattle.salvage.proofs.sieve.weights_of.Goals as goal

@@ -3,7 +3,7 @@ use Rattle.std.proofs.Common.{ap, ◌∙◌}
 use Rattle.std.proofs.lemmas.List.{take_all}
 use Rattle.grammar_spec.specs.Lines.{script_of}
 use Rattle.grammar_spec.specs.Printed.{script_text}
-use Rattle.script.proofs.Round.{script_back}
+use Rattle.script.proofs.PrintedRead.{script_back}
 use Rattle.script.proofs.printing.print.Goals as goal
 
 pub returns-clause-read : goal.returns-clause-read

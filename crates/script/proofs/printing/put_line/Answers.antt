@@ -1,7 +1,7 @@
 -- Word, tail and newline, put in turn, are the line's text. For `put_line`.
 use Rattle.std.proofs.Common.{◌≡◌, List, ℕ, [], ◌∷◌, ap, ◌∙◌, ◌++◌, append_assoc}
 use Rattle.script.specs.Writing.{word_text, tail_text}
-use Rattle.script.proofs.Joined.{word_and_tail}
+use Rattle.script.proofs.LineFields.{word_and_tail}
 use Rattle.script.proofs.printing.put_line.Goals as goal
 
 regroup : (out a b c : List ℕ) → out ++ a ++ b ++ c ≡ out ++ (a ++ b ++ c)

@@ -2,7 +2,7 @@
 -- `parse`.
 use Rattle.std.proofs.Common.{sym, ap, ◌+◌, ◌∙◌, Ok, Err}
 use Rattle.script.proofs.Loop.{at_start, one_more, fault_of_line, at_end, open_end}
-use Rattle.script.proofs.Inside.{read_fields}
+use Rattle.script.proofs.FieldTable.{read_fields}
 use Rattle.script.proofs.reading.parse.Goals as goal
 
 pub loop-text-init : goal.loop-text-init

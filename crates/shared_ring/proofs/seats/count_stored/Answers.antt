@@ -1,6 +1,7 @@
 -- A seat whose last byte was stored is given back, any other counts one byte more. For
 -- `count_stored`.
-use Rattle.std.proofs.Common.{◌≡◌, ◌≢◌, ℕ, ◌+◌, ◌<◌, true, false, ◌==◌, List, ◌++◌, length, take, drop, set, get_or, arith, sym, ap, ◌∙◌, Some, eq-eqb, refl}
+use Rattle.std.proofs.Common.{◌≡◌, ◌≢◌, ℕ, ◌+◌, ◌<◌, true, false, ◌==◌, List, ◌++◌, length, take, drop, set, get_or}
+use Rattle.std.proofs.Common.{arith, sym, ap, ◌∙◌, Some, eq-eqb, refl}
 use Rattle.std.proofs.lemmas.Bool.{ne_eqb}
 use Rattle.std.proofs.lemmas.List.{take-set, drop-set-lt}
 use Rattle.std.specs.Prelude.{slice_get}

@@ -3,7 +3,7 @@ use Rattle.std.proofs.Common.{[], ◌∷◌, length-append, refl, rules, arith}
 use Rattle.std.proofs.lemmas.Iterator.Adapters.{YieldsList-from_vec}
 use Rattle.std.proofs.lemmas.Iterator.Consumers.{YieldsList-end}
 use Rattle.script.proofs.Taken.{line_taken}
-use Rattle.shared_session.proofs.Played.{plays_none, plays_next, plays_stop, plays_all, few_reserved, field_at}
+use Rattle.shared_session.proofs.ScriptLines.{plays_none, plays_next, plays_stop, plays_all, few_reserved, field_at}
 use Rattle.shared_session.proofs.playing.play.Goals as goal
 
 pub loop-line-init : goal.loop-line-init

@@ -1,6 +1,6 @@
 -- As many lines are done as were taken. For the loop of `play`.
 use Rattle.std.proofs.Common.{◌≡◌, length}
-use Rattle.shared_session.proofs.Played.{PlaysSoFar}
+use Rattle.shared_session.proofs.ScriptLines.{PlaysSoFar}
 use Rattle.shared_session.proofs.playing.play.Given as goal
 
 -- so many lines were done as were taken

@@ -1,6 +1,7 @@
 -- The stores of an append's stages sum to the number, which is below 2^28. For `append_stores`.
-use Rattle.std.proofs.Common.{arith, ◌≡◌, ◌+◌, ◌-◌, ◌*◌, sym, ap, ◌∙◌, length, take, drop, length-take, length-drop, if◌then◌else◌, ◌==◌}
-use Rattle.store_steps.proofs.Storing.{block_some}
+use Rattle.std.proofs.Common.{arith, ◌≡◌, ◌+◌, ◌-◌, ◌*◌, sym, ap, ◌∙◌, length, take, drop, length-take, length-drop}
+use Rattle.std.proofs.Common.{if◌then◌else◌, ◌==◌}
+use Rattle.store_steps.proofs.PhaseStores.{block_some}
 use Rattle.store_steps.proofs.Totals.{met, append_count, parity_most}
 use Rattle.store_steps.proofs.counts.append_stores.Goals as goal
 

@@ -1,6 +1,7 @@
 -- In a ranked list addresses do not fall, so all functions at or below an address stand before the
 -- others. For `count_below`.
-use Rattle.std.proofs.Common.{◌≡◌, ℕ, ◌*◌, ◌+◌, ◌-◌, ◌<◌, ◌≤◌, List, true, false, length, get_or, leb, leb-true, leb-false, arith, rules}
+use Rattle.std.proofs.Common.{◌≡◌, ℕ, ◌*◌, ◌+◌, ◌-◌, ◌<◌, ◌≤◌, List, true, false, length, get_or, leb, leb-true}
+use Rattle.std.proofs.Common.{leb-false, arith, rules}
 use Rattle.std.proofs.lemmas.Bool.Decides.{nat_tests}
 use Rattle.std.proofs.lemmas.List.Sorted.{IsPartitionPoint-from_clause, IsPartitionedBy-leb}
 use Rattle.std.specs.List.Sorted.{IsNonDecreasingBy}

@@ -1,6 +1,6 @@
 -- An append, done or failed, leaves the store its size, so the next call has its room. For
 -- `append_to`.
-use Rattle.zone_blk.proofs.Clearing.{room-makes, room-fails}
+use Rattle.zone_blk.proofs.LoadingWrites.{room-makes, room-fails}
 use Rattle.zone_blk.proofs.blk.append_to.Goals as goal
 
 pub returns-in-Ok-clause-room : goal.returns-in-Ok-clause-room

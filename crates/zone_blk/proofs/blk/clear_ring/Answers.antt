@@ -7,7 +7,7 @@ use Rattle.blk_spec.specs.Answers.{Device, device, Makes}
 use Rattle.blk_spec.specs.Rings.{header_write, empty_words}
 use Rattle.blk_spec.specs.States.{clearing}
 use Rattle.zone_blk.proofs.Sequences.{makes-no-write}
-use Rattle.zone_blk.proofs.Clearing.{room-ends}
+use Rattle.zone_blk.proofs.LoadingWrites.{room-ends}
 use Rattle.zone_blk.proofs.blk.clear_ring.Goals as goal
 
 pub returns-then-zone-eq0-clause-ends : goal.returns-then-zone-eq0-clause-ends

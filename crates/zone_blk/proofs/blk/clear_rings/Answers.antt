@@ -5,7 +5,7 @@ use Rattle.blk_spec.specs.declared.BlkRing.TheVariants.{Console}
 use Rattle.blk_spec.specs.Layout.{ring_zone}
 use Rattle.blk_spec.specs.Answers.{device}
 use Rattle.blk_spec.specs.States.{clearing}
-use Rattle.zone_blk.proofs.Clearing.{load-writes}
+use Rattle.zone_blk.proofs.LoadingWrites.{load-writes}
 use Rattle.zone_blk.proofs.Sequences.{then-ends, fails-before, ends-same, fails-same}
 use Rattle.zone_blk.proofs.blk.clear_rings.Goals as goal
 

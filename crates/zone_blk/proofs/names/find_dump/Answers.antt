@@ -4,7 +4,7 @@ use Rattle.std.proofs.Common.{◌≡◌, ◌∙◌, sym, ap, true, false}
 use Rattle.blk_spec.specs.declared.BlkName.{BlkName}
 use Rattle.blk_spec.specs.Reading.{BlkDump}
 use Rattle.blk_spec.specs.Names.{is_name, dump_name}
-use Rattle.zone_blk.proofs.Finding.{find-here, find-past, find-end}
+use Rattle.zone_blk.proofs.FirstItem.{find-here, find-past, find-end}
 use Rattle.zone_blk.proofs.names.find_dump.Goals as goal
 
 pub returns-then-is_name : goal.returns-then-is_name

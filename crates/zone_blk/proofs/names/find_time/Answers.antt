@@ -4,7 +4,7 @@ use Rattle.std.proofs.Common.{◌≡◌, ◌≢◌, ◌==◌, ◌∙◌, sym, ap
 use Rattle.std.specs.Option.{option_map}
 use Rattle.std.proofs.lemmas.Bool.Decides.{nat_tests}
 use Rattle.blk_spec.specs.Reading.{BlkDump}
-use Rattle.zone_blk.proofs.Finding.{find-here, find-past, find-end}
+use Rattle.zone_blk.proofs.FirstItem.{find-here, find-past, find-end}
 use Rattle.zone_blk.proofs.names.find_time.Goals as goal
 
 pub returns-then-dump-index : goal.returns-then-dump-index

@@ -1,5 +1,5 @@
 -- Bytes that are no UTF-8 name nothing
-use Rattle.zone_blk.proofs.Called.{no-text}
+use Rattle.zone_blk.proofs.OneNameText.{no-text}
 use Rattle.zone_blk.proofs.names.named.Goals as goal
 
 pub returns-in-Err : goal.returns-in-Err

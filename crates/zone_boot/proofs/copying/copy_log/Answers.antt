@@ -1,6 +1,6 @@
 -- A zone that was found gives the bytes of its log that fit, any other none. For `copy_log`.
 use Rattle.std.proofs.Common.{ℕ, List, ◌-◌, ◌++◌, length, take, drop, min, sym, ap, ◌∙◌, arith}
-use Rattle.zone_boot.proofs.Summing.{log-found, log-other}
+use Rattle.zone_boot.proofs.HeaderReading.{log-found, log-other}
 use Rattle.zone_boot.proofs.copying.copy_log.Goals as goal
 
 pub returns-in-Found-clause-len : goal.returns-in-Found-clause-len

@@ -2,7 +2,7 @@
 use Rattle.std.proofs.Common.{sym, ap, ◌∙◌, [], ◌++◌, if◌then◌else◌, Bool}
 use Rattle.zone_spec.specs.Calls.{erase_stages}
 use Rattle.zone_spec.specs.Boot.{signing}
-use Rattle.zone_boot.proofs.Starting.{erased-other}
+use Rattle.zone_boot.proofs.BootStart.{erased-other}
 use Rattle.zone_boot.proofs.deciding.erasure_of.Goals as goal
 
 pub returns-in_default : goal.returns-in_default

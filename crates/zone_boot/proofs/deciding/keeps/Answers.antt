@@ -1,7 +1,7 @@
 -- A found zone is kept by what it holds, an empty one always, any other never. For `keeps`.
 use Rattle.std.proofs.Common.{◌∙◌}
 use Rattle.zone_spec.specs.declared.State.TheVariants.{Unsigned, Empty, Invalid, Found}
-use Rattle.zone_boot.proofs.Starting.{keeps-in}
+use Rattle.zone_boot.proofs.BootStart.{keeps-in}
 use Rattle.zone_boot.proofs.deciding.keeps.Goals as goal
 
 pub returns-in-Found : goal.returns-in-Found

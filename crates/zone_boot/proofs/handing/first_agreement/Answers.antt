@@ -1,5 +1,5 @@
 -- A byte that differs is one store more of the run. For the loop of `first_agreement`.
-use Rattle.zone_boot.proofs.Fixing.{agree-none, agree-next}
+use Rattle.zone_boot.proofs.PartFixes.{agree-none, agree-next}
 use Rattle.zone_boot.proofs.handing.first_agreement.Goals as goal
 
 pub loop-i-init : goal.loop-i-init

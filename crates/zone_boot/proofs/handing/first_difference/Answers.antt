@@ -1,7 +1,7 @@
 -- A byte that agrees needs no store. For the loop of `first_difference`.
 use Rattle.std.proofs.Common.{◌≡◌, ℕ, ◌+◌, drop, ap, ◌∙◌, arith}
 use Rattle.zone_spec.specs.Boot.{fix_stores}
-use Rattle.zone_boot.proofs.Fixing.{fix-same}
+use Rattle.zone_boot.proofs.PartFixes.{fix-same}
 use Rattle.zone_boot.proofs.handing.first_difference.Goals as goal
 
 pub loop-i-preserved : goal.loop-i-preserved

@@ -1,7 +1,7 @@
 -- A found zone counts header and blocks, any other the header alone, as its reading does. For
 -- `read_summary`.
 use Rattle.std.proofs.Common.{sym, ◌∙◌}
-use Rattle.zone_boot.proofs.Summing.{summary-found, summary-other}
+use Rattle.zone_boot.proofs.HeaderReading.{summary-found, summary-other}
 use Rattle.zone_boot.proofs.summaries.read_summary.Goals as goal
 
 pub returns-in-Found : goal.returns-in-Found

@@ -4,7 +4,7 @@ use Rattle.std.proofs.Common.{◌≡◌, ◌+◌, ◌<◌, length, refl, arith}
 use Rattle.std.proofs.lemmas.Grind.{common_steps}
 use Rattle.oopsbox_c.specs.Stores.{IsRowInside}
 use Rattle.oopsbox_c.specs.declared.stores.StoreRow.{StoreRow}
-use Rattle.oopsbox_c.proofs.Gathering.{all_more}
+use Rattle.oopsbox_c.proofs.NextStores.{all_more}
 use Rattle.oopsbox_c.proofs.stores.Stores.push.Goals as goal
 
 pub returns-clause-inside : goal.returns-clause-inside

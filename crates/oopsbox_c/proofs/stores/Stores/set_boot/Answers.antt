@@ -4,7 +4,7 @@ use Rattle.std.proofs.Common.{◌≡◌, ◌+◌, ◌<◌, ◌⊎◌, length, re
 use Rattle.std.proofs.lemmas.Grind.{common_steps}
 use Rattle.oopsbox_c.specs.Stores.{IsRowInside}
 use Rattle.oopsbox_c.specs.declared.stores.StoreRow.{StoreRow}
-use Rattle.oopsbox_c.proofs.Gathering.{row_more, all_more}
+use Rattle.oopsbox_c.proofs.NextStores.{row_more, all_more}
 use Rattle.oopsbox_c.proofs.stores.Stores.set_boot.Goals as goal
 
 pub returns-in_default : goal.returns-in_default

@@ -3,7 +3,7 @@ use Rattle.std.proofs.Common.{◌≡◌, ap, subst, length, arith, sym}
 use Rattle.ramoops_layout.specs.Laid.{zones_of}
 use Rattle.prz_read.specs.Saving.{AreNumbered}
 use Rattle.prz_read.proofs.Saves.{layout-few}
-use Rattle.prz_read.proofs.Numbered.{numbers-small}
+use Rattle.prz_read.proofs.ZoneNumbers.{numbers-small}
 use Rattle.prz_read.proofs.logs.Logs.new.Goals as goal
 
 pub of_zones-requires-clause-few : goal.of_zones-requires-clause-few

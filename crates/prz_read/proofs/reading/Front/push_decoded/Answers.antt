@@ -4,7 +4,7 @@ use Rattle.std.proofs.Common.{◌≡◌, ℕ, List, ◌++◌, length, take, refl
 use Rattle.zone_spec.specs.Parts.{Block}
 use Rattle.zone_spec.specs.PartReadings.{part_reading}
 use Rattle.prz_read.proofs.Fronts.{bytes_read-next, counted-corrected, counted-bad}
-use Rattle.prz_read.proofs.Pushing.{pushed}
+use Rattle.prz_read.proofs.BlockList.{pushed}
 use Rattle.prz_read.proofs.reading.Front.push_decoded.Goals as goal
 
 pub slice_bounds-extend_from_slice-end : goal.slice_bounds-extend_from_slice-end

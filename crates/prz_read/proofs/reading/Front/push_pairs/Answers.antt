@@ -2,7 +2,7 @@
 -- blocks longer. For the loop of `push_pairs`.
 use Rattle.std.proofs.Common.{arith, ◌∙◌}
 use Rattle.ring_laws.proofs.PartsLaw.{block_some}
-use Rattle.prz_read.proofs.Pushing.{pair-room, next-pair}
+use Rattle.prz_read.proofs.BlockList.{pair-room, next-pair}
 use Rattle.prz_read.proofs.reading.Front.push_pairs.Goals as goal
 
 pub excess_pair-first-requires-clause-blocks : goal.excess_pair-first-requires-clause-blocks

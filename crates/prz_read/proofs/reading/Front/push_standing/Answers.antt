@@ -4,7 +4,7 @@ use Rattle.std.proofs.Common.{ℕ, List, ◌+◌, ◌*◌, ◌++◌, slice_range
 use Rattle.zone_spec.specs.Parts.{Block}
 use Rattle.zone_spec.specs.PartReadings.{part_reading}
 use Rattle.prz_read.proofs.States.{clean-state}
-use Rattle.prz_read.proofs.Pushing.{codeword-reads, pushed, standing}
+use Rattle.prz_read.proofs.BlockList.{codeword-reads, pushed, standing}
 use Rattle.prz_read.proofs.reading.Front.push_standing.Goals as goal
 
 pub returns-clause-reads : goal.returns-clause-reads

@@ -1,6 +1,7 @@
 -- Each byte that is stored lies in the piece, and after the last all are put in. For
 -- `Piece::store_bytes`.
-use Rattle.std.proofs.Common.{ℕ, ◌+◌, List, [], ◌∷◌, ◌++◌, append_assoc, append-nil, drop, length, get_or, lit<, sym, ap, ◌∙◌, arith}
+use Rattle.std.proofs.Common.{ℕ, ◌+◌, List, [], ◌∷◌, ◌++◌, append_assoc, append-nil, drop, length, get_or, lit<, sym}
+use Rattle.std.proofs.Common.{ap, ◌∙◌, arith}
 use Rattle.core.specs.Mem.Slots.{slots_counts}
 use Rattle.zone_spec.specs.Stores.{Store, put, byte_stores}
 use Rattle.prz_region.specs.Made.{Write, in_span}

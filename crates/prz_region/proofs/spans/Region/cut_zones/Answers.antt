@@ -1,6 +1,7 @@
 -- The piece that is split off is the next zone's, and the rest begins where it ends. For the loop
 -- of `cut_zones`.
-use Rattle.std.proofs.Common.{◌≡◌, ℕ, ◌<◌, ◌≤◌, List, [], ◌∷◌, ◌++◌, length, take, drop, map, sym, ap, subst, ◌∙◌, arith}
+use Rattle.std.proofs.Common.{◌≡◌, ℕ, ◌<◌, ◌≤◌, List, [], ◌∷◌, ◌++◌, length, take, drop, map, sym, ap, subst, ◌∙◌}
+use Rattle.std.proofs.Common.{arith}
 use Rattle.std.proofs.lemmas.List.{map-append}
 use Rattle.core.specs.Mem.Slots.{slots_len, slots_ptr, slots_items, slots_counts}
 use Rattle.zone_spec.specs.declared.Zone.{Zone}
@@ -8,7 +9,7 @@ use Rattle.zone_spec.specs.Parts.{AreBytes}
 use Rattle.prz_region.specs.Chain.{all_bytes}
 use Rattle.zone_spec.specs.Layouts.{zones_end}
 use Rattle.prz_region.proofs.Chains.{laid-more, bytes-append, AreBytes-drop}
-use Rattle.prz_region.proofs.Cutting.{zone, bytes_in, take-next, bytes_in-next, drop-next, fits-next}
+use Rattle.prz_region.proofs.CutLoop.{zone, bytes_in, take-next, bytes_in-next, drop-next, fits-next}
 use Rattle.prz_region.proofs.spans.Region.cut_zones.Goals as goal
 
 pub loop-zone-preserved : goal.loop-zone-preserved

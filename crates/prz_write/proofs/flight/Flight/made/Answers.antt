@@ -4,7 +4,7 @@ use Rattle.std.proofs.Common.{◌≡◌, ap, sym, ◌∙◌, subst}
 use Rattle.store_steps.specs.Flying.{Flying}
 use Rattle.store_steps.specs.Machine.{IsKept}
 use Rattle.zone_spec.specs.Calls.{image_after}
-use Rattle.store_steps.proofs.Standing.{stands_image, stands_last}
+use Rattle.store_steps.proofs.FlightImage.{stands_image, stands_last}
 use Rattle.prz_write.proofs.flight.Flight.made.Goals as goal
 
 pub returns-clause-image : goal.returns-clause-image

@@ -2,7 +2,7 @@
 use Rattle.std.proofs.Common.{ap, ◌∙◌}
 use Rattle.store_steps.specs.Flying.{Flying}
 use Rattle.store_steps.specs.Counts.{total_of}
-use Rattle.prz_write.proofs.Whole.{seen_by}
+use Rattle.prz_write.proofs.CallSteps.{seen_by}
 use Rattle.prz_write.proofs.flight.Flight.total.Goals as goal
 
 pub returns-clause-stores : goal.returns-clause-stores

@@ -10,7 +10,7 @@ use Rattle.zone_spec.specs.Calls.{call_stores}
 use Rattle.rs_encode.specs.Lanes.{IsLent}
 use Rattle.prz_write.specs.Made.{HasStored}
 use Rattle.prz_write.specs.Seen.{seen}
-use Rattle.prz_write.proofs.Making.{made_after, none_yet, more_yet, has_same_count, has_same_len}
+use Rattle.prz_write.proofs.SpanStores.{made_after, none_yet, more_yet, has_same_count, has_same_len}
 use Rattle.prz_write.proofs.progress.Progress.advance.Goals as goal
 
 pub stores-init : goal.stores-init

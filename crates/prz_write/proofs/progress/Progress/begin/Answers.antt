@@ -5,7 +5,7 @@ use Rattle.prz_write.specs.declared.progress.Progress.{Progress}
 use Rattle.store_steps.specs.Flying.{Flying, flying}
 use Rattle.store_steps.specs.Machine.{IsKept, StandsFor}
 use Rattle.prz_write.specs.Seen.{seen}
-use Rattle.prz_write.proofs.Whole.{seen_by}
+use Rattle.prz_write.proofs.CallSteps.{seen_by}
 use Rattle.prz_write.proofs.progress.Progress.begin.Goals as goal
 
 abbrev is_seen : (c : goal.After-begin-steps)

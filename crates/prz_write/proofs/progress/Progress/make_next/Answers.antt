@@ -11,7 +11,7 @@ use Rattle.store_steps.specs.Flying.{Flying, flying}
 use Rattle.store_steps.specs.Handed.{handed, handed_count}
 use Rattle.store_steps.specs.Machine.{IsKept, StandsFor}
 use Rattle.prz_write.specs.Seen.{seen}
-use Rattle.prz_write.proofs.Whole.{seen_by}
+use Rattle.prz_write.proofs.CallSteps.{seen_by}
 use Rattle.prz_write.proofs.progress.Progress.make_next.Goals as goal
 
 -- the flight before and after the stores

@@ -2,7 +2,7 @@
 use Rattle.std.proofs.Common.{◌∙◌, ℕ, List, ap, arith}
 use Rattle.script_spec.specs.Generated.{drawn_number}
 use Rattle.ram_generator.proofs.Over.{over_more, over_all, range_next, range_end}
-use Rattle.ram_generator.proofs.Drawing.{draws_start, number_drawn}
+use Rattle.ram_generator.proofs.DrawLoops.{draws_start, number_drawn}
 use Rattle.ram_generator.proofs.draws.Draws.draw_bytes.Goals as goal
 
 pub bytes-init : goal.bytes-init

@@ -2,7 +2,7 @@
 use Rattle.std.proofs.Common.{◌+◌, arith}
 use Rattle.script_spec.specs.Generated.{drawn_flip}
 use Rattle.ram_generator.proofs.Over.{over_same, over_more, over_all, places_start, places_next, range_end}
-use Rattle.ram_generator.proofs.Drawing.{flip_drawn}
+use Rattle.ram_generator.proofs.DrawLoops.{flip_drawn}
 use Rattle.ram_generator.proofs.draws.Draws.draw_masks.Goals as goal
 
 pub masks-init : goal.masks-init

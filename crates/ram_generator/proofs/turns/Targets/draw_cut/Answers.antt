@@ -1,6 +1,6 @@
 -- With no ring no append is cut; else ring, bytes and number of stores are drawn in this order. For `draw_cut`.
 use Rattle.std.proofs.Common.{sym, ◌∙◌, arith}
-use Rattle.ram_generator.proofs.Turning.{found_at, cut_none, cut_drawn}
+use Rattle.ram_generator.proofs.TurnDraws.{found_at, cut_none, cut_drawn}
 use Rattle.ram_generator.proofs.turns.Targets.draw_cut.Goals as goal
 
 pub returns-then-is_empty : goal.returns-then-is_empty

@@ -1,5 +1,5 @@
 -- With no dump zone a turn draws the same and asks nothing; else it asks the dump. For `draw_dump`.
-use Rattle.ram_generator.proofs.Turning.{dump_there, dump_nowhere}
+use Rattle.ram_generator.proofs.TurnDraws.{dump_there, dump_nowhere}
 use Rattle.ram_generator.proofs.turns.Targets.draw_dump.Goals as goal
 
 pub returns-then-not-self-clause-turn : goal.returns-then-not-self-clause-turn

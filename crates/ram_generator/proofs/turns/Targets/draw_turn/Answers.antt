@@ -1,7 +1,7 @@
 -- A number below that of the rings asks an append to that ring, the next one a dump. For `draw_turn`.
 use Rattle.std.proofs.Common.{List, length, slice_get, ap, sym, ◌∙◌, rules, arith}
 use Rattle.zone_spec.specs.declared.ZoneName.{ZoneName}
-use Rattle.ram_generator.proofs.Turning.{found_at, turn_append, turn_dump}
+use Rattle.ram_generator.proofs.TurnDraws.{found_at, turn_append, turn_dump}
 use Rattle.ram_generator.proofs.turns.Targets.draw_turn.Goals as goal
 
 pub returns-then-c-len : goal.returns-then-c-len

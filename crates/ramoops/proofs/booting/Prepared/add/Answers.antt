@@ -1,7 +1,7 @@
 -- A zone's log fits a `u32` and the told list's room. For `Prepared::add`.
 use Rattle.std.proofs.Common.{length, ap, arith}
 use Rattle.zone_spec.specs.Reading.{ZoneReading}
-use Rattle.ramoops.proofs.Preparing.{log_fits, cap_small}
+use Rattle.ramoops.proofs.BootReading.{log_fits, cap_small}
 use Rattle.ramoops.proofs.booting.Prepared.add.Goals as goal
 
 pub report_of-requires : goal.report_of-requires

@@ -3,7 +3,7 @@
 use Rattle.std.proofs.Common.{◌<◌, length, List, sym, subst}
 use Rattle.zone_spec.specs.declared.Zone.{Zone}
 use Rattle.ramoops.specs.Refilling.{SaysBlank}
-use Rattle.ramoops.proofs.Refilling.{log_added, log_left}
+use Rattle.ramoops.proofs.LogAppend.{log_added, log_left}
 use Rattle.ramoops.proofs.live.Live.add_log.Goals as goal
 
 pub store_all-stored-requires : goal.store_all-stored-requires

@@ -3,7 +3,7 @@
 use Rattle.std.proofs.Common.{is_some, sym, ap, ◌∙◌}
 use Rattle.machine_spec.specs.ZoneCalls.{stepped}
 use Rattle.ramoops.specs.Made.{next_stores}
-use Rattle.ramoops.proofs.Stepped.{goes_leaves, made_there, goes_idle}
+use Rattle.ramoops.proofs.StepStates.{goes_leaves, made_there, goes_idle}
 use Rattle.ramoops.proofs.live.Live.advance.Goals as goal
 
 pub returns-in-None-clause-refused : goal.returns-in-None-clause-refused

@@ -1,7 +1,7 @@
 -- A call with a flight in its way is refused as busy. For `begin_at`.
 use Rattle.std.proofs.Common.{sym, ◌∙◌}
 use Rattle.ramoops.specs.Asks.{ask_seen}
-use Rattle.ramoops.proofs.Running.{begun_busy}
+use Rattle.ramoops.proofs.CallPremises.{begun_busy}
 use Rattle.ramoops.proofs.live.Live.begin_at.Goals as goal
 
 pub returns-then-is_busy-clause-refused : goal.returns-then-is_busy-clause-refused

@@ -2,9 +2,9 @@
 use Rattle.std.proofs.Common.{◌≡◌, ◌+◌, None, Some, get_or, set, slice_get, refl, arith}
 use Rattle.ramoops_layout.specs.Laid.{zones_of}
 use Rattle.prz_region.specs.CutRegion.{span}
-use Rattle.prz_region.proofs.Cutting.{no_zone}
+use Rattle.prz_region.proofs.CutLoop.{no_zone}
 use Rattle.ramoops.specs.Places.{dump_flights}
-use Rattle.ramoops.proofs.Refilling.{Blank, blank_here, log_started}
+use Rattle.ramoops.proofs.LogAppend.{Blank, blank_here, log_started}
 use Rattle.ramoops.proofs.DumpFlights.{flights_begun, flights_bound}
 use Rattle.ramoops.proofs.live.Live.begin_log.Goals as goal
 use Rattle.ramoops.proofs.live.Live.begin_log.Goals.{After-index_mut, After-dump_flight}

@@ -1,7 +1,7 @@
 -- The flight of the zone at hand is the one of the state that the machine stands for, which is
 -- sound. For `Live::flies`.
 use Rattle.std.proofs.Common.{is_some, sym, ◌∙◌}
-use Rattle.ramoops.proofs.Stepped.{target_shows, held_here}
+use Rattle.ramoops.proofs.StepStates.{target_shows, held_here}
 use Rattle.ramoops.proofs.live.Live.flies.Goals as goal
 
 pub returns-in-Some-clause-flies : goal.returns-in-Some-clause-flies

@@ -1,7 +1,7 @@
 -- The spans joined are the image of the live state. For `Live::into_image`.
 use Rattle.std.proofs.Common.{sym, ◌∙◌, subst}
 use Rattle.ramoops.specs.LiveSeen.{LiveSeen, StandsLive}
-use Rattle.ramoops.proofs.Stopping.{image_left}
+use Rattle.ramoops.proofs.StopStates.{image_left}
 use Rattle.ramoops.proofs.live.Live.into_image.Goals as goal
 
 pub returns : goal.returns

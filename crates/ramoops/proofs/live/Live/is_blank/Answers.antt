@@ -1,7 +1,7 @@
 -- A zone is blank exactly when no flight stands there and nothing was told. For `is_blank`.
 use Rattle.std.proofs.Common.{ap, not, sym, subst, ◌∙◌}
 use Rattle.ramoops.specs.Refilling.{SaysBlank}
-use Rattle.ramoops.proofs.Refilling.{says_blank, blank_tells, flying_tells}
+use Rattle.ramoops.proofs.LogAppend.{says_blank, blank_tells, flying_tells}
 use Rattle.ramoops.proofs.live.Live.is_blank.Goals as goal
 
 pub returns-then-is_none : goal.returns-then-is_none

@@ -2,7 +2,7 @@
 -- `Live::left`.
 use Rattle.std.proofs.Common.{sym, ◌∙◌}
 use Rattle.machine_spec.specs.ZoneCalls.{stores_left}
-use Rattle.ramoops.proofs.Stepped.{target_shows, left_here}
+use Rattle.ramoops.proofs.StepStates.{target_shows, left_here}
 use Rattle.ramoops.proofs.live.Live.left.Goals as goal
 
 pub returns-in-Some-clause-left : goal.returns-in-Some-clause-left

@@ -1,5 +1,5 @@
 -- The number at hand is what is left of the flight in zone `i`. For `left_at`.
-use Rattle.ramoops.proofs.Finishing.{is_left}
+use Rattle.ramoops.proofs.WholeFlights.{is_left}
 use Rattle.ramoops.proofs.live.Live.left_at.Goals as goal
 
 pub returns : goal.returns

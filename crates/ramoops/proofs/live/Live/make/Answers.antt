@@ -1,7 +1,7 @@
 -- A call begun and all its stores made is the session's operation; a refusal is that of its begin.
 -- For `Live::make`.
 use Rattle.ramoops.specs.Asks.{ask_seen}
-use Rattle.ramoops.proofs.Finishing.{make_leaves, make_made, make_refused}
+use Rattle.ramoops.proofs.WholeFlights.{make_leaves, make_made, make_refused}
 use Rattle.ramoops.proofs.live.Live.make.Goals as goal
 
 pub returns-in-Ok-clause-made : goal.returns-in-Ok-clause-made

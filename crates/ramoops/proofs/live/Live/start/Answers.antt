@@ -3,10 +3,10 @@ use Rattle.std.proofs.Common.{◌≡◌, ◌+◌, None, Some, get_or, set, slice
 use Rattle.zone_spec.specs.Calls.{CanBegin}
 use Rattle.ramoops_layout.specs.Laid.{zones_of}
 use Rattle.prz_region.specs.CutRegion.{span}
-use Rattle.prz_region.proofs.Cutting.{no_zone}
+use Rattle.prz_region.proofs.CutLoop.{no_zone}
 use Rattle.ramoops.specs.Asks.{ask_seen}
 use Rattle.ramoops.specs.Places.{dump_flights}
-use Rattle.ramoops.proofs.Running.{Free, free_here, started}
+use Rattle.ramoops.proofs.CallPremises.{Free, free_here, started}
 use Rattle.ramoops.proofs.DumpFlights.{flights_begun, flights_bound}
 use Rattle.ramoops.proofs.live.Live.start.Goals as goal
 use Rattle.ramoops.proofs.live.Live.start.Goals.{After-into_call, After-dump_flight}

@@ -4,7 +4,7 @@ use Rattle.std.proofs.Common.{Some, true, false, is_some, sym, ap, ◌∙◌, tr
 use Rattle.machine_spec.specs.ZoneCalls.{stepped}
 use Rattle.ramoops.specs.Storing.{is_next}
 use Rattle.ramoops.specs.Made.{next_stores}
-use Rattle.ramoops.proofs.Stepped.{goes_leaves, made_there, goes_idle, flies_after}
+use Rattle.ramoops.proofs.StepStates.{goes_leaves, made_there, goes_idle, flies_after}
 use Rattle.ramoops.proofs.live.Live.step.Goals as goal
 
 pub returns-in-None-clause-refused : goal.returns-in-None-clause-refused

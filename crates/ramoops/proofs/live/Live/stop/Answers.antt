@@ -5,8 +5,8 @@ use Rattle.ramoops_layout.specs.Laid.{zones_of}
 use Rattle.ramoops.specs.declared.known.KnownZone.{KnownZone}
 use Rattle.ramoops.specs.OffSeen.{known_all}
 use Rattle.ramoops.specs.Stopped.{stop_zone}
-use Rattle.ramoops.proofs.Listed.{all_listed}
-use Rattle.ramoops.proofs.Stopping.{stopped_stands, stopped_sizes, stopped_rests}
+use Rattle.ramoops.proofs.KnownZones.{all_listed}
+use Rattle.ramoops.proofs.StopStates.{stopped_stands, stopped_sizes, stopped_rests}
 use Rattle.ramoops.specs.LiveSeen.{LiveSeen, StandsLive}
 use Rattle.ramoops.proofs.live.Live.stop.Goals as goal
 use Rattle.ramoops.proofs.live.Live.stop.Goals.{After-stop_all}

@@ -8,9 +8,10 @@ use Rattle.ramoops.specs.Places.{dump_flight, flies_at}
 use Rattle.ramoops.specs.Storing.{is_next}
 use Rattle.zone_spec.specs.declared.Zone.{Zone}
 use Rattle.ramoops.specs.Cursors.{cursor_at, cursor_after}
-use Rattle.ramoops.proofs.Flown.{zone_at, zone_read, can_store, has_parity, dumps, flies_here, flies_set, idle_same, stored_by, stores_made}
+use Rattle.ramoops.proofs.Flown.{zone_at, zone_read, can_store, has_parity, dumps, flies_here, flies_set, idle_same}
+use Rattle.ramoops.proofs.Flown.{stored_by, stores_made}
 use Rattle.ramoops.proofs.DumpFlights.{flights_flew, flights_stored}
-use Rattle.prz_region.proofs.Cutting.{no_zone}
+use Rattle.prz_region.proofs.CutLoop.{no_zone}
 use Rattle.ramoops.proofs.live.Live.store.Goals as goal
 
 pub advance-stored-requires-clause-can : goal.advance-stored-requires-clause-can

@@ -1,5 +1,5 @@
 -- As many stores as are left finish the flight. For `store_all`.
-use Rattle.ramoops.proofs.Finishing.{finishes, makes_left}
+use Rattle.ramoops.proofs.WholeFlights.{finishes, makes_left}
 use Rattle.ramoops.proofs.live.Live.store_all.Goals as goal
 
 pub returns-clause-stored : goal.returns-clause-stored

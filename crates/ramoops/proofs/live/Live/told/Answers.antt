@@ -1,7 +1,7 @@
 -- The list at hand is the told list of the state that the machine stands for, and the zone is in
 -- ring form for it. For `Live::told`.
 use Rattle.std.proofs.Common.{sym}
-use Rattle.ramoops.proofs.Stepped.{target_shows, held_here, ring_of}
+use Rattle.ramoops.proofs.StepStates.{target_shows, held_here, ring_of}
 use Rattle.ramoops.proofs.live.Live.told.Goals as goal
 
 pub returns-in-Some-clause-told : goal.returns-in-Some-clause-told

@@ -7,7 +7,8 @@ use Rattle.ramoops.specs.declared.report.ZoneReport.{ZoneReport}
 use Rattle.ramoops.specs.Reports.{report_seen}
 use Rattle.ramoops.specs.LiveSeen.{LiveSeen}
 use Rattle.ramoops.specs.Booted.{Booted}
-use Rattle.ramoops.proofs.Boots.{open_fits, open_whole, open_closed, open_rests, logs_from, boot_runs, boot_is, boot_writes_all}
+use Rattle.ramoops.proofs.Boots.{open_fits, open_whole, open_closed, open_rests, logs_from, boot_runs, boot_is}
+use Rattle.ramoops.proofs.Boots.{boot_writes_all}
 use Rattle.ramoops.proofs.off.Off.boot.Goals as goal
 
 pub prepare-requires-clause-spans : goal.prepare-requires-clause-spans

@@ -5,7 +5,7 @@ use Rattle.std.specs.Prelude.{slice_index, slice_set, bit_xor}
 use Rattle.std.proofs.lemmas.List.{length-set}
 use Rattle.ramoops_layout.specs.Laid.{params_of, zones_of}
 use Rattle.ramoops.specs.OffSeen.{OffSeen, known_all, StandsOff}
-use Rattle.ramoops.proofs.Resting.{flipped_stands, flipped_rests}
+use Rattle.ramoops.proofs.OffStates.{flipped_stands, flipped_rests}
 use Rattle.ramoops.proofs.off.Off.flip.Goals as goal
 
 pub invariant_of-self : goal.invariant_of-self

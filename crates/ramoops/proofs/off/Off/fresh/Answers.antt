@@ -5,8 +5,8 @@ use Rattle.zone_spec.specs.Layouts.{IsLayout}
 use Rattle.ramoops_layout.specs.Laid.{params_of, zones_of}
 use Rattle.ramoops.specs.declared.known.KnownZone.{KnownZone}
 use Rattle.ramoops.specs.OffSeen.{known_all}
-use Rattle.ramoops.proofs.Listed.{all_len, none_listed}
-use Rattle.ramoops.proofs.Resting.{fresh_stands, fresh_rests}
+use Rattle.ramoops.proofs.KnownZones.{all_len, none_listed}
+use Rattle.ramoops.proofs.OffStates.{fresh_stands, fresh_rests}
 use Rattle.ramoops.proofs.off.Off.fresh.Goals as goal
 
 pub invariant_of-result : goal.invariant_of-result

@@ -3,7 +3,7 @@
 use Rattle.std.proofs.Common.{◌∙◌, ap, sym, take, List, ℕ, arith}
 use Rattle.ramoops_layout.specs.Keys.{table_of}
 use Rattle.grammar_spec.specs.Words.{word_fault, texts}
-use Rattle.ramoops_layout.proofs.Apart.{apart, few, fault_step, found_fault, faultless}
+use Rattle.ramoops_layout.proofs.DistinctKeys.{apart, few, fault_step, found_fault, faultless}
 use Rattle.ramoops_layout.proofs.words.Keys.first_fault.Goals as goal
 
 pub overflow_cast-i : goal.overflow_cast-i

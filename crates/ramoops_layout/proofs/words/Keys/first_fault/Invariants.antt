@@ -3,7 +3,7 @@
 use Rattle.std.proofs.Common.{◌≡◌, ◌≤◌, take, drop, []}
 use Rattle.ramoops_layout.specs.Keys.{table_of}
 use Rattle.grammar_spec.specs.Words.{first_fault, texts}
-use Rattle.ramoops_layout.proofs.Apart.{keys_in}
+use Rattle.ramoops_layout.proofs.DistinctKeys.{keys_in}
 use Rattle.ramoops_layout.proofs.words.Keys.first_fault.Given as goal
 
 -- the words passed over have no fault, and each gives a key of its own

@@ -5,7 +5,7 @@ use Rattle.zone_spec.specs.declared.Zone.{Zone}
 use Rattle.salvage_spec.specs.declared.FoundRing.{FoundRing}
 use Rattle.salvage_spec.specs.Rings.{shapes}
 use Rattle.salvage.specs.Scans.{Scanned, rings_from}
-use Rattle.salvage.proofs.Listing.{all_rings}
+use Rattle.salvage.proofs.ScanRest.{all_rings}
 use Rattle.salvage.proofs.scan.Scan.new.Goals as goal
 
 pub shapes_of-requires : goal.shapes_of-requires

@@ -1,7 +1,7 @@
 -- The ring that is found is the first of those left, and with none found none is left. For
 -- `Scan::next`.
 use Rattle.ramoops_layout.specs.Laid.{zones_of}
-use Rattle.salvage.proofs.Listing.{after_hit, after_none}
+use Rattle.salvage.proofs.ScanRest.{after_hit, after_none}
 use Rattle.salvage.proofs.scan.Scan.next.Goals as goal
 
 pub returns-in-Some-clause-ring : goal.returns-in-Some-clause-ring

@@ -2,7 +2,7 @@
 -- `Scan::ring_at`.
 use Rattle.std.proofs.Common.{refl}
 use Rattle.ramoops_layout.specs.Laid.{zones_of}
-use Rattle.salvage.proofs.Asked.{asked, named_valid, inside, read_ok, read_err, is_ok}
+use Rattle.salvage.proofs.PlaceReading.{asked, named_valid, inside, read_ok, read_err, is_ok}
 use Rattle.salvage.proofs.scan.Scan.ring_at.Goals as goal
 
 pub has_ring-requires : goal.has_ring-requires

@@ -2,7 +2,7 @@
 use Rattle.std.proofs.Common.{◌≡◌, ◌++◌, ◌∙◌, ap}
 use Rattle.zone_spec.specs.declared.Zone.{Zone}
 use Rattle.salvage_spec.specs.Rings.{ring_in}
-use Rattle.salvage.proofs.Probed.{none_of_coder, no_parity}
+use Rattle.salvage.proofs.HeaderSums.{none_of_coder, no_parity}
 use Rattle.salvage.proofs.shape.Shape.ring_in.Goals as goal
 
 pub returns-in-None : goal.returns-in-None

@@ -1,7 +1,7 @@
 -- Each block has its errors more, until they are too many. For `Sieve::is_far`.
 use Rattle.std.proofs.Common.{◌+◌, ap, sym, ◌∙◌, arith, subst}
 use Rattle.salvage.specs.Sieves.{IsBlock, IsKnownWord, Sifted}
-use Rattle.salvage.proofs.Sieving.{far_more, own_block}
+use Rattle.salvage.proofs.BlockFactors.{far_more, own_block}
 use Rattle.salvage.proofs.sieve.Sieve.is_far.Goals as goal
 
 pub returns-then-most-count : goal.returns-then-most-count

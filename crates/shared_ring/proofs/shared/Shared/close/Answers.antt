@@ -5,8 +5,8 @@ use Rattle.std.specs.List.{concat}
 use Rattle.zone_spec.specs.Reading.{zone_reading}
 use Rattle.machine_spec.specs.Zones.{zone_bytes}
 use Rattle.shared_ring.specs.Seen.{SharedSeen}
-use Rattle.shared_ring.proofs.Opened.{closed}
-use Rattle.shared_laws.proofs.Closing.{zone_left, log_left}
+use Rattle.shared_ring.proofs.OpenAndClosed.{closed}
+use Rattle.shared_laws.proofs.ClosedImage.{zone_left, log_left}
 use Rattle.shared_ring.proofs.shared.Shared.close.Goals as goal
 
 pub returns-clause-left : goal.returns-clause-left

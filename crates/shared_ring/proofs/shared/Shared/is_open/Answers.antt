@@ -3,7 +3,7 @@ use Rattle.std.proofs.Common.{is_some, ap, ◌∙◌}
 use Rattle.std.specs.Prelude.{position}
 use Rattle.shared_ring.specs.Seats.{is_of}
 use Rattle.shared_ring.specs.Seen.{SharedSeen}
-use Rattle.shared_ring.proofs.Leaving.{open_told}
+use Rattle.shared_ring.proofs.RingSteps.{open_told}
 use Rattle.shared_ring.proofs.shared.Shared.is_open.Goals as goal
 
 pub returns : goal.returns

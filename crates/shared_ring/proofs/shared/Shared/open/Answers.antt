@@ -7,7 +7,7 @@ use Rattle.ramoops_layout.specs.Laid.{params_of, zones_of}
 use Rattle.prz_region.specs.CutRegion.{CutRegion, cut_at}
 use Rattle.shared_ring.specs.declared.seats.Seat.{Seat}
 use Rattle.shared_ring.specs.Seen.{SharedSeen, IsWhole, IsLeftBy}
-use Rattle.shared_ring.proofs.Opened.{opened_whole, opened_left, zone_there, zone_read}
+use Rattle.shared_ring.proofs.OpenAndClosed.{opened_whole, opened_left, zone_there, zone_read}
 use Rattle.shared_ring.proofs.shared.Shared.open.Goals as goal
 
 -- what was made is what stands for a zone that was just opened

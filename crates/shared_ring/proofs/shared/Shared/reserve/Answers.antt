@@ -4,7 +4,7 @@ use Rattle.shared_spec.specs.Machine.{refusal}
 use Rattle.shared_spec.specs.Runs.{Reserve}
 use Rattle.shared_spec.specs.Histories.{shared_zone, and_then}
 use Rattle.shared_ring.specs.Seen.{SharedSeen, IsLeftBy, stores}
-use Rattle.shared_ring.proofs.Leaving.{left_reserved, left_refused}
+use Rattle.shared_ring.proofs.RingSteps.{left_reserved, left_refused}
 use Rattle.shared_ring.proofs.shared.Shared.reserve.Goals as goal
 
 pub returns-in-Some-clause-left : goal.returns-in-Some-clause-left

@@ -3,7 +3,7 @@ use Rattle.std.proofs.Common.{◌≡◌, ℕ, ◌+◌, ◌%◌, min, List, [], �
 use Rattle.zone_spec.specs.declared.Words.{Words}
 use Rattle.prz_region.specs.CutRegion.{CutRegion, stored}
 use Rattle.shared_ring.specs.declared.seats.Seat.{Seat}
-use Rattle.shared_ring.specs.Seen.{SharedSeen, words_of, words_store, IsWhole, seated}
+use Rattle.shared_ring.specs.Seen.{SharedSeen, words_seen, words_store, IsWhole, seated}
 use Rattle.shared_ring.proofs.Wholes.{seated_whole}
 use Rattle.shared_ring.proofs.shared.Shared.seat.Goals as goal
 
@@ -19,7 +19,7 @@ after v w n payload = record {
 }
 
 left : (v : SharedSeen) (payload : List ℕ) (w : Words) (n size : ℕ) (spans : CutRegion) (seats : List Seat)
-    → w ≡ words_of v → n ≡ length payload → size ≡ min v.zone.cap (w.size + n)
+    → w ≡ words_seen v → n ≡ length payload → size ≡ min v.zone.cap (w.size + n)
     → spans ≡ stored v.region v.place (words_store ((w.start + n) % v.zone.cap) size ∷ [])
     → seats ≡ v.seats ++ record { ticket = v.reserved; place = w.start; stored = 0; payload = payload } ∷ []
     → seated v payload
@@ -57,7 +57,7 @@ invariant_of-self c =
       subst IsWhole
           (left v c.args.payload c.words-words.result c.len-len.result c.min.result c.store_pair.new.self
           c.push_reserved.new.self.items
-          (c.words-words.ensures.value ∙ ap (λ (x : SharedSeen). words_of x) (sym c.self.view_is))
+          (c.words-words.ensures.value ∙ ap (λ (x : SharedSeen). words_seen x) (sym c.self.view_is))
           c.len-len.ensures.len c.min.ensures c.store_pair.ensures c.push_reserved.ensures.items)
           (seated_whole v c.args.payload c.self.invariant.1 (omega (arith, few, c.requires.seat)) c.requires.some
           (omega (arith, cap, c.requires.room))),

@@ -6,8 +6,8 @@ use Rattle.shared_spec.specs.Runs.{StoreNext}
 use Rattle.shared_spec.specs.Histories.{and_then}
 use Rattle.shared_ring.specs.Seats.{is_of}
 use Rattle.shared_ring.specs.Seen.{SharedSeen, IsLeftBy, stores}
-use Rattle.shared_ring.proofs.Standing.{the_seat}
-use Rattle.shared_ring.proofs.Leaving.{left_stepped, left_idle, step_answers, idle_answers}
+use Rattle.shared_ring.proofs.RingView.{the_seat}
+use Rattle.shared_ring.proofs.RingSteps.{left_stepped, left_idle, step_answers, idle_answers}
 use Rattle.shared_ring.proofs.shared.Shared.step.Goals as goal
 
 pub returns-in-Some-clause-left : goal.returns-in-Some-clause-left

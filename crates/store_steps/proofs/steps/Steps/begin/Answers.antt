@@ -6,13 +6,13 @@ use Rattle.zone_spec.specs.declared.Zone.{Zone}
 use Rattle.zone_spec.specs.Reading.{IsRing}
 use Rattle.zone_spec.specs.Told.{Call}
 use Rattle.zone_spec.specs.Parts.{standing_words}
-use Rattle.store_steps.proofs.Handing.{line_short, call_of_bytes}
+use Rattle.store_steps.proofs.HandOut.{line_short, call_of_bytes}
 use Rattle.store_steps.specs.Calls.{call_of, line_of, IsOpenFor}
 use Rattle.store_steps.specs.First.{first_place}
 use Rattle.store_steps.specs.declared.place.Place.{Place}
 use Rattle.store_steps.specs.Machine.{IsKept, StandsFor}
 use Rattle.store_steps.proofs.Small.{total_small}
-use Rattle.store_steps.proofs.Beginning.{starts, started, placed_starts, kept_starts, stands_starts}
+use Rattle.store_steps.proofs.CallBegin.{starts, started, placed_starts, kept_starts, stands_starts}
 use Rattle.store_steps.proofs.steps.Steps.begin.Goals as goal
 
 is_started : (z : Zone) (w : Words) (call : Call) (place : Place) → place ≡ first_place z w call

@@ -4,9 +4,9 @@ use Rattle.std.proofs.Common.{◌≡◌, sym, ap, ◌∙◌, arith}
 use Rattle.store_steps.specs.Flying.{Flying, flying}
 use Rattle.store_steps.specs.Machine.{behind}
 use Rattle.store_steps.specs.LeftCounts.{behind_count}
-use Rattle.store_steps.proofs.Left.{counted}
+use Rattle.store_steps.proofs.StoresLeft.{counted}
 use Rattle.store_steps.proofs.LeftCounts.{behind_counted}
-use Rattle.store_steps.proofs.Storing.{block_some}
+use Rattle.store_steps.proofs.PhaseStores.{block_some}
 use Rattle.store_steps.proofs.steps.Steps.count_left.Goals as goal
 
 pub returns : goal.returns

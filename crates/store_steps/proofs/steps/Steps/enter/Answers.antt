@@ -5,9 +5,12 @@ use Rattle.store_steps.specs.declared.place.Phase.TheVariants.{Start, First, Sec
 use Rattle.store_steps.specs.Flying.{Flying, flying}
 use Rattle.store_steps.specs.Phases.{IsWithin, first_end, second_run, second_len, first_len}
 use Rattle.store_steps.specs.Machine.{Enters}
-use Rattle.store_steps.proofs.Left.{all_stored}
-use Rattle.store_steps.proofs.Storing.{block_some}
-use Rattle.store_steps.proofs.Entering.{end_above, end_some, first_some, second_length, enter_zero_size, enter_header_erased, enter_start, enter_first, enter_first_parity, enter_next_parity, enter_second, enter_second_parity, enter_later_parity, enter_header_first, enter_header_second}
+use Rattle.store_steps.proofs.StoresLeft.{all_stored}
+use Rattle.store_steps.proofs.PhaseStores.{block_some}
+use Rattle.store_steps.proofs.PhaseEntry.{end_above, end_some, first_some, second_length, enter_zero_size}
+use Rattle.store_steps.proofs.PhaseEntry.{enter_header_erased, enter_start, enter_first, enter_first_parity}
+use Rattle.store_steps.proofs.PhaseEntry.{enter_next_parity, enter_second, enter_second_parity, enter_later_parity}
+use Rattle.store_steps.proofs.PhaseEntry.{enter_header_first, enter_header_second}
 use Rattle.store_steps.proofs.steps.Steps.enter.Goals as goal
 
 pub returns-in-ZeroStart-clause-enters : goal.returns-in-ZeroStart-clause-enters

@@ -4,10 +4,10 @@ use Rattle.store_steps.specs.Calls.{front_of, line_of}
 use Rattle.store_steps.specs.Flying.{Flying, flying, at_place}
 use Rattle.store_steps.specs.Machine.{Enters}
 use Rattle.store_steps.specs.Phases.{IsPlaced}
-use Rattle.store_steps.proofs.Placing.{body_placed}
+use Rattle.store_steps.proofs.DumpParts.{body_placed}
 use Rattle.store_steps.specs.declared.place.Leg.TheVariants.{Body}
-use Rattle.store_steps.proofs.Left.{all_stored}
-use Rattle.store_steps.proofs.Entering.{enter_finished}
+use Rattle.store_steps.proofs.StoresLeft.{all_stored}
+use Rattle.store_steps.proofs.PhaseEntry.{enter_finished}
 use Rattle.store_steps.proofs.Parts.{enter_body, begun, no_body}
 use Rattle.store_steps.proofs.steps.Steps.enter_body.Goals as goal
 

@@ -4,9 +4,9 @@ use Rattle.store_steps.specs.Calls.{line_of, later_stages}
 use Rattle.store_steps.specs.Flying.{Flying, flying}
 use Rattle.store_steps.specs.Machine.{Enters}
 use Rattle.store_steps.specs.Phases.{IsPlaced}
-use Rattle.store_steps.proofs.Placing.{line_placed}
-use Rattle.store_steps.proofs.Left.{all_stored}
-use Rattle.store_steps.proofs.Entering.{enter_finished}
+use Rattle.store_steps.proofs.DumpParts.{line_placed}
+use Rattle.store_steps.proofs.StoresLeft.{all_stored}
+use Rattle.store_steps.proofs.PhaseEntry.{enter_finished}
 use Rattle.store_steps.proofs.Parts.{enter_line}
 use Rattle.store_steps.proofs.steps.Steps.enter_next_leg.Goals as goal
 

@@ -7,7 +7,7 @@ use Rattle.zone_spec.specs.Parts.{Part, Block, part_bytes, part_parity_at}
 use Rattle.zone_spec.specs.Stores.{byte_stores}
 use Rattle.zone_spec.specs.Stages.{stage_stores}
 use Rattle.store_steps.proofs.ParityBytes.{parity_length}
-use Rattle.store_steps.proofs.Storing.{part-byte_stores}
+use Rattle.store_steps.proofs.PhaseStores.{part-byte_stores}
 use Rattle.store_steps.proofs.steps.Steps.give_block_parity.Goals as goal
 
 pub give_parity-requires-clause-number : goal.give_parity-requires-clause-number

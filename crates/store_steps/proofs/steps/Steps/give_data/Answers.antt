@@ -5,8 +5,8 @@ use Rattle.zone_spec.specs.Stores.{byte_stores}
 use Rattle.store_steps.specs.declared.place.Phase.TheVariants.{First, Second}
 use Rattle.store_steps.specs.Flying.{Flying, flying, payload}
 use Rattle.store_steps.specs.Machine.{IsParity}
-use Rattle.store_steps.proofs.Storing.{ready_in}
-use Rattle.store_steps.proofs.Handing.{first_given, second_given}
+use Rattle.store_steps.proofs.PhaseStores.{ready_in}
+use Rattle.store_steps.proofs.HandOut.{first_given, second_given}
 use Rattle.store_steps.proofs.steps.Steps.give_data.Goals as goal
 
 pub returns-in-First-clause-stores : goal.returns-in-First-clause-stores

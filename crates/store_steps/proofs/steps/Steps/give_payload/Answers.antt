@@ -7,7 +7,8 @@ use Rattle.store_steps.specs.Calls.{call_of, leg_bytes}
 use Rattle.store_steps.specs.Handed.{handed, IsInside}
 use Rattle.store_steps.specs.declared.place.Leg.{Leg}
 use Rattle.store_steps.specs.declared.place.Leg.TheVariants.{Payload, Line, Body}
-use Rattle.store_steps.proofs.Handing.{erasure_none, line_within, front_within, last_within, erasure_part, line_part, front_part, last_part, last_fits}
+use Rattle.store_steps.proofs.HandOut.{erasure_none, line_within, front_within, last_within, erasure_part, line_part}
+use Rattle.store_steps.proofs.HandOut.{front_part, last_part, last_fits}
 use Rattle.store_steps.proofs.steps.Steps.give_payload.Goals as goal
 
 -- the requirement at the leg that it is

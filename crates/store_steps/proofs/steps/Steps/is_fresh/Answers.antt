@@ -1,10 +1,10 @@
 -- A state that passes as fresh is a call before its first store, and is kept. For `is_fresh`.
 use Rattle.std.proofs.Common.{arith}
 use Rattle.store_steps.specs.Flying.{flying}
-use Rattle.store_steps.proofs.Handing.{line_short}
+use Rattle.store_steps.proofs.HandOut.{line_short}
 use Rattle.store_steps.specs.Calls.{call_of}
 use Rattle.store_steps.proofs.Small.{total_small}
-use Rattle.store_steps.proofs.Beginning.{fresh_kept}
+use Rattle.store_steps.proofs.CallBegin.{fresh_kept}
 use Rattle.store_steps.proofs.steps.Steps.is_fresh.Goals as goal
 
 pub returns-clause-kept : goal.returns-clause-kept

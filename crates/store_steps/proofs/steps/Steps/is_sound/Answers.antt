@@ -3,7 +3,7 @@ use Rattle.std.proofs.Common.{◌≤◌, ◌<◌, length, arith}
 use Rattle.std.proofs.lemmas.Grind.{common_steps}
 use Rattle.store_steps.specs.Calls.{line_of}
 use Rattle.store_steps.specs.Flying.{Flying, flying}
-use Rattle.store_steps.proofs.Handing.{line_within}
+use Rattle.store_steps.proofs.HandOut.{line_within}
 use Rattle.store_steps.proofs.LeftCounts.{leg_short}
 use Rattle.store_steps.proofs.steps.Steps.is_sound.Goals as goal
 

@@ -4,8 +4,8 @@ use Rattle.std.proofs.Common.{ℕ, refl, arith}
 use Rattle.zone_spec.specs.Stores.{after_stores}
 use Rattle.store_steps.specs.Flying.{Flying, flying}
 use Rattle.store_steps.specs.Machine.{next_stores}
-use Rattle.store_steps.proofs.Stepping.{next_length, stands_later, kept_later}
-use Rattle.store_steps.proofs.Handing.{call_of_bytes}
+use Rattle.store_steps.proofs.FlightSteps.{next_length, stands_later, kept_later}
+use Rattle.store_steps.proofs.HandOut.{call_of_bytes}
 use Rattle.store_steps.proofs.Data.{bytes_next}
 use Rattle.store_steps.proofs.steps.Steps.move_on.Goals as goal
 

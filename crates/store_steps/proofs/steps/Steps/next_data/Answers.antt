@@ -7,9 +7,9 @@ use Rattle.zone_spec.specs.Calls.{call_stores}
 use Rattle.store_steps.specs.Handed.{handed, handed_by}
 use Rattle.store_steps.specs.Flying.{Flying, flying}
 use Rattle.store_steps.specs.Machine.{StandsFor, next_stores}
-use Rattle.store_steps.proofs.Stepping.{ends}
-use Rattle.store_steps.proofs.Standing.{next_is}
-use Rattle.store_steps.proofs.Handing.{call_of_bytes, no_bytes}
+use Rattle.store_steps.proofs.FlightSteps.{ends}
+use Rattle.store_steps.proofs.FlightImage.{next_is}
+use Rattle.store_steps.proofs.HandOut.{call_of_bytes, no_bytes}
 use Rattle.store_steps.proofs.Data.{data_length, bytes_next}
 use Rattle.store_steps.proofs.steps.Steps.next_data.Goals as goal
 

@@ -6,9 +6,9 @@ use Rattle.zone_spec.specs.Stores.{after_stores}
 use Rattle.zone_spec.specs.Calls.{call_stores}
 use Rattle.store_steps.specs.Flying.{Flying, flying}
 use Rattle.store_steps.specs.Machine.{StandsFor, IsSameData, next_stores}
-use Rattle.store_steps.proofs.Stepping.{next_length}
-use Rattle.store_steps.proofs.Standing.{next_is}
-use Rattle.store_steps.proofs.Handing.{call_of_bytes}
+use Rattle.store_steps.proofs.FlightSteps.{next_length}
+use Rattle.store_steps.proofs.FlightImage.{next_is}
+use Rattle.store_steps.proofs.HandOut.{call_of_bytes}
 use Rattle.store_steps.proofs.Data.{next_same, apart_next, bytes_next}
 use Rattle.store_steps.proofs.steps.Steps.next_parity.Goals as goal
 

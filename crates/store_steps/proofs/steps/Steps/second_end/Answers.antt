@@ -1,6 +1,6 @@
 -- The second run ends within the zone's blocks. For `second_end`.
 use Rattle.std.proofs.Common.{◌≤◌, sym, subst, arith}
-use Rattle.store_steps.proofs.Storing.{end_in}
+use Rattle.store_steps.proofs.PhaseStores.{end_in}
 use Rattle.store_steps.proofs.steps.Steps.second_end.Goals as goal
 
 pub returns-clause-within : goal.returns-clause-within

@@ -1,6 +1,6 @@
 -- A dump, done or failed, leaves the store its size, so the next call has its room. For
 -- `Blk::dump`.
-use Rattle.zone_blk.proofs.Clearing.{room-makes, room-fails}
+use Rattle.zone_blk.proofs.LoadingWrites.{room-makes, room-fails}
 use Rattle.zone_blk.proofs.blk.Blk.dump.Goals as goal
 
 pub returns-in-Ok-clause-room : goal.returns-in-Ok-clause-room

@@ -2,7 +2,7 @@
 use Rattle.std.proofs.Common.{Bool, if◌then◌else◌, Some, None, sym, ap, subst, ◌∙◌}
 use Rattle.blk_spec.specs.States.{names_of}
 use Rattle.zone_blk.specs.Answering.{IsLoadedState}
-use Rattle.zone_blk.proofs.Called.{all-names, found, found-none}
+use Rattle.zone_blk.proofs.OneNameText.{all-names, found, found-none}
 use Rattle.zone_blk.proofs.blk.Blk.find.Goals as goal
 
 pub returns-in_err-name : goal.returns-in_err-name

@@ -4,7 +4,8 @@ use Rattle.std.proofs.Common.{◌≡◌, ◌∙◌, sym, ap, subst, ℕ, inr}
 use Rattle.blk_spec.specs.Answers.{HasRoom, Device, device, further}
 use Rattle.blk_spec.specs.Writes.{store_after}
 use Rattle.blk_spec.specs.States.{load_writes}
-use Rattle.zone_blk.proofs.Clearing.{load-refused, uncut-store, uncut-asks, uncut-stays, fails-behind, room-makes, room-fails}
+use Rattle.zone_blk.proofs.LoadingWrites.{load-refused, uncut-store, uncut-asks, uncut-stays, fails-behind, room-makes}
+use Rattle.zone_blk.proofs.LoadingWrites.{room-fails}
 use Rattle.zone_blk.proofs.blk.Blk.load.Goals as goal
 
 pub returns-in-Err-clause-answer : goal.returns-in-Err-clause-answer

@@ -1,7 +1,7 @@
 -- A block without a correction changes nothing that is left. For the loop of `correct_blocks`.
 use Rattle.std.proofs.Common.{◌≡◌, [], ◌∙◌}
 use Rattle.zone_boot.specs.Handed.{handed}
-use Rattle.zone_boot.proofs.Ending.{gives-none, gives-made}
+use Rattle.zone_boot.proofs.BootHandOut.{gives-none, gives-made}
 use Rattle.zone_boot.proofs.boots.Boot.correct_blocks.Goals as goal
 
 pub loop-self-preserved : goal.loop-self-preserved

@@ -1,8 +1,8 @@
 -- Where the header has no correction left the blocks follow. For `correct_header`.
 use Rattle.std.proofs.Common.{[], ◌≡◌, ◌∙◌, sym, false, true}
 use Rattle.zone_boot.specs.Handed.{handed}
-use Rattle.zone_boot.proofs.Starting.{header-reads}
-use Rattle.zone_boot.proofs.Ending.{gives-none, gives-made, gives-after}
+use Rattle.zone_boot.proofs.BootStart.{header-reads}
+use Rattle.zone_boot.proofs.BootHandOut.{gives-none, gives-made, gives-after}
 use Rattle.zone_boot.proofs.boots.Boot.correct_header.Goals as goal
 
 pub fix_header-requires-clause-reads : goal.fix_header-requires-clause-reads

@@ -2,7 +2,7 @@
 use Rattle.std.proofs.Common.{refl, sym, ap}
 use Rattle.zone_boot.specs.declared.boots.Phase.TheVariants.{Signature, Start, Finished}
 use Rattle.zone_boot.specs.Left.{stages_of}
-use Rattle.zone_boot.proofs.Leaving.{entered}
+use Rattle.zone_boot.proofs.LaterStores.{entered}
 use Rattle.zone_boot.proofs.boots.Boot.enter_erasure.Goals as goal
 
 pub returns-in-Kept-clause-left : goal.returns-in-Kept-clause-left

@@ -5,7 +5,8 @@ use Rattle.zone_spec.specs.Stores.{word_store}
 use Rattle.zone_boot.specs.declared.boots.Phase.{Phase}
 use Rattle.zone_boot.specs.declared.boots.Phase.TheVariants.{Signature, Start, Size}
 use Rattle.zone_boot.specs.Booting.{most_made}
-use Rattle.zone_boot.proofs.Ending.{left-in, left-signature, left-start, left-size, left-finished, counts-signature, counts-start, counts-size, gives, gives-nothing}
+use Rattle.zone_boot.proofs.BootHandOut.{left-in, left-signature, left-start, left-size, left-finished}
+use Rattle.zone_boot.proofs.BootHandOut.{counts-signature, counts-start, counts-size, gives, gives-nothing}
 use Rattle.zone_boot.proofs.boots.Boot.erase.Goals as goal
 
 pub returns-in-Signature-clause-gives : goal.returns-in-Signature-clause-gives

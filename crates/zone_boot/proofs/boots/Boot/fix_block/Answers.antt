@@ -1,6 +1,7 @@
 -- The run handed out is the next of the block's corrections; if none differs the block has none
 -- left. For `fix_block`.
-use Rattle.std.proofs.Common.{◌≡◌, ◌≤◌, ◌+◌, ◌*◌, ◌<◌, ◌++◌, ℕ, List, [], length, false, true, refl, sym, ap, ap₂, ◌∙◌, subst, arith}
+use Rattle.std.proofs.Common.{◌≡◌, ◌≤◌, ◌+◌, ◌*◌, ◌<◌, ◌++◌, ℕ, List, [], length, false, true, refl, sym, ap, ap₂, ◌∙◌}
+use Rattle.std.proofs.Common.{subst, arith}
 use Rattle.zone_spec.specs.Parts.{AreBytes, Block, part_at}
 use Rattle.zone_spec.specs.Stores.{Store}
 use Rattle.zone_boot.specs.declared.boots.Phase.{Phase}
@@ -9,9 +10,10 @@ use Rattle.zone_boot.specs.Handed.{handed, IsRun}
 use Rattle.zone_boot.specs.Left.{part_left}
 use Rattle.zone_boot.specs.Booting.{most_made, IsPlace}
 use Rattle.zone_boot.proofs.Blocks.{block-part, block-inside, block-facts}
-use Rattle.zone_boot.proofs.Parting.{run-reads}
-use Rattle.zone_boot.proofs.Leaving.{part-run, left-min, left-end, passed-left, block-given, block-counts, not-empty}
-use Rattle.zone_boot.proofs.Ending.{gives, gives-nothing}
+use Rattle.zone_boot.proofs.PartRuns.{run-reads}
+use Rattle.zone_boot.proofs.LaterStores.{part-run, left-min, left-end, passed-left, block-given, block-counts}
+use Rattle.zone_boot.proofs.LaterStores.{not-empty}
+use Rattle.zone_boot.proofs.BootHandOut.{gives, gives-nothing}
 use Rattle.zone_boot.proofs.boots.Boot.fix_block.Goals as goal
 
 pub bytes_at-stands-requires : goal.bytes_at-stands-requires

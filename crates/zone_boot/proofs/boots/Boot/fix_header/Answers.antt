@@ -1,6 +1,7 @@
 -- The run handed out is the next of the header's corrections; if none differs the header has none left.
 -- For `fix_header`.
-use Rattle.std.proofs.Common.{◌≡◌, ◌≤◌, ◌+◌, ◌++◌, ℕ, List, [], length, false, true, refl, sym, ap, ap₂, ◌∙◌, subst, arith}
+use Rattle.std.proofs.Common.{◌≡◌, ◌≤◌, ◌+◌, ◌++◌, ℕ, List, [], length, false, true, refl, sym, ap, ap₂, ◌∙◌, subst}
+use Rattle.std.proofs.Common.{arith}
 use Rattle.zone_spec.specs.Parts.{AreBytes, Header, part_bytes}
 use Rattle.zone_spec.specs.Stores.{Store}
 use Rattle.zone_boot.specs.declared.boots.Phase.{Phase}
@@ -9,9 +10,9 @@ use Rattle.zone_boot.specs.Handed.{handed}
 use Rattle.zone_boot.specs.Left.{part_left}
 use Rattle.zone_boot.specs.Booting.{most_made, IsPlace}
 use Rattle.zone_boot.proofs.Blocks.{header-facts}
-use Rattle.zone_boot.proofs.Parting.{run-reads}
-use Rattle.zone_boot.proofs.Leaving.{part-run, left-end, header-left, header-given, header-counts}
-use Rattle.zone_boot.proofs.Ending.{gives, gives-nothing}
+use Rattle.zone_boot.proofs.PartRuns.{run-reads}
+use Rattle.zone_boot.proofs.LaterStores.{part-run, left-end, header-left, header-given, header-counts}
+use Rattle.zone_boot.proofs.BootHandOut.{gives, gives-nothing}
 use Rattle.zone_boot.proofs.boots.Boot.fix_header.Goals as goal
 
 pub set_run-end-requires-clause-same : goal.set_run-end-requires-clause-same

@@ -9,7 +9,7 @@ use Rattle.zone_boot.specs.declared.boots.Phase.{Phase}
 use Rattle.zone_boot.specs.declared.boots.Phase.TheVariants.{Parity}
 use Rattle.zone_boot.specs.Handed.{handed}
 use Rattle.zone_boot.specs.Booting.{most_made}
-use Rattle.zone_boot.proofs.Ending.{left-in, left-parity, parity-none, parity-long, counts-parity, gives}
+use Rattle.zone_boot.proofs.BootHandOut.{left-in, left-parity, parity-none, parity-long, counts-parity, gives}
 use Rattle.zone_boot.proofs.boots.Boot.give_parity.Goals as goal
 
 stores : (c : goal.After-self-2-1) → handed c.set_bytes.new.self

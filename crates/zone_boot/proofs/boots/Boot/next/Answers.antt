@@ -1,5 +1,5 @@
 -- What is handed out is the front of what is left, never nothing before the end. For `Boot::next`.
-use Rattle.zone_boot.proofs.Ending.{gives-stands, gives-handed, gives-some, gives-finished}
+use Rattle.zone_boot.proofs.BootHandOut.{gives-stands, gives-handed, gives-some, gives-finished}
 use Rattle.zone_boot.proofs.boots.Boot.next.Goals as goal
 
 pub returns-clause-stands : goal.returns-clause-stands

@@ -1,7 +1,7 @@
 -- Without corrections the erasure is all that is left. For `Boot::of_clean`.
 use Rattle.std.proofs.Common.{[], refl, sym}
-use Rattle.zone_boot.proofs.Leaving.{after-none}
-use Rattle.zone_boot.proofs.Starting.{starts-clean, stages-by}
+use Rattle.zone_boot.proofs.LaterStores.{after-none}
+use Rattle.zone_boot.proofs.BootStart.{starts-clean, stages-by}
 use Rattle.zone_boot.proofs.boots.Boot.of_clean.Goals as goal
 
 pub returns-clause-stands : goal.returns-clause-stands

@@ -2,8 +2,8 @@
 use Rattle.std.proofs.Common.{[], refl, sym, ap, ◌∙◌}
 use Rattle.zone_spec.specs.Reading.{state_of}
 use Rattle.ring_laws.proofs.States.{reading_state}
-use Rattle.zone_boot.proofs.Leaving.{after-none}
-use Rattle.zone_boot.proofs.Starting.{starts, stages-by}
+use Rattle.zone_boot.proofs.LaterStores.{after-none}
+use Rattle.zone_boot.proofs.BootStart.{starts, stages-by}
 use Rattle.zone_boot.proofs.boots.Boot.of_reading.Goals as goal
 
 pub returns-clause-stands : goal.returns-clause-stands

@@ -2,7 +2,7 @@
 use Rattle.std.proofs.Common.{sym, ap, ◌∙◌}
 use Rattle.zone_boot.specs.declared.handing.Given.{Given}
 use Rattle.zone_boot.specs.Handed.{handed_by}
-use Rattle.zone_boot.proofs.Fixing.{byte-none, byte-some, empty-is, empty-test}
+use Rattle.zone_boot.proofs.PartFixes.{byte-none, byte-some, empty-is, empty-test}
 use Rattle.zone_boot.proofs.handing.BootStore.is_empty.Goals as goal
 
 pub returns-in-Bytes : goal.returns-in-Bytes

@@ -1,6 +1,6 @@
 -- No bytes are no store; some are a run that says what it hands out. For `set_bytes`.
 use Rattle.std.proofs.Common.{◌≡◌, ℕ, refl, sym, ◌∙◌, arith}
-use Rattle.zone_boot.proofs.Fixing.{byte-none, byte-some, empty-is, full-is}
+use Rattle.zone_boot.proofs.PartFixes.{byte-none, byte-some, empty-is, full-is}
 use Rattle.zone_boot.proofs.handing.BootStore.set_bytes.Goals as goal
 
 pub returns-then-is_empty-clause-handed : goal.returns-then-is_empty-clause-handed

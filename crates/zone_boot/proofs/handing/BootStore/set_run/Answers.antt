@@ -1,9 +1,10 @@
 -- The bytes between the first difference and the next agreement are the run, and are some if any
 -- differ. For `set_run`.
-use Rattle.std.proofs.Common.{◌≡◌, ◌≤◌, ℕ, ◌+◌, ◌-◌, length, drop, slice_range, inl, inr, sym, ap, ◌∙◌, arith, length-take, length-drop}
+use Rattle.std.proofs.Common.{◌≡◌, ◌≤◌, ℕ, ◌+◌, ◌-◌, length, drop, slice_range, inl, inr, sym, ap, ◌∙◌, arith}
+use Rattle.std.proofs.Common.{length-take, length-drop}
 use Rattle.std.proofs.lemmas.Bool.{cases_lt}
 use Rattle.ring_laws.proofs.StoreCounts.{length-byte_stores}
-use Rattle.zone_boot.proofs.Fixing.{byte-some}
+use Rattle.zone_boot.proofs.PartFixes.{byte-some}
 use Rattle.zone_boot.proofs.handing.BootStore.set_run.Goals as goal
 
 long : (c : goal.After-set_bytes) → length (slice_range c.args.reads.now c.first_difference-first.result

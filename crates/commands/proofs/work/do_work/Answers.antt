@@ -1,0 +1,56 @@
+-- `do_work` has done what the words ask for: nothing for a refused plan, and a move's work for
+-- `move`. The other plans need no answer.
+use Rattle.std.proofs.Common.{refl, arith, Err}
+use Rattle.command_spec.specs.Commands.{OfMove, plan_of}
+use Rattle.command_line.specs.Words.{texts, move_for}
+use Rattle.commands.proofs.WorkEnds.{none_done, plan_done, count_same}
+use Rattle.commands.proofs.Due.{plan_put, plan_same}
+use Rattle.commands.proofs.ImageFaults.{plan_fails, none_fails}
+use Rattle.commands.proofs.work.do_work.Goals as goal
+
+pub returns-in-Err-clause-work : goal.returns-in-Err-clause-work
+returns-in-Err-clause-work g c = none_done (plan_of (texts c.args.words.now)) c.in-Err.stop _ _ c.in-Err.ensures.plan
+    c.in-Err.ensures.stops
+    (record {
+      script = record { left = refl; source = refl };
+      image = record { holds = refl; store = refl };
+      given = refl;
+    }) refl refl
+
+pub returns-in-Ok-Move-clause-work : goal.returns-in-Ok-Move-clause-work
+returns-in-Ok-Move-clause-work g c = plan_done (plan_of (texts c.args.words.now))
+    (OfMove (move_for c.in-Ok-Move.from c.in-Ok-Move.to)) _ _ _
+    (rw c.in-Ok-Move.field-0-is at c.in-Ok-Move.ensures.plan)
+    (record {
+      later = record {
+        source = omega arith;
+        store = c.move_image.ensures.later.0;
+        sink = c.move_image.ensures.later.1;
+      };
+      caused = c.move_image.ensures.caused _ _;
+      counts = record {
+        source = count_same _ _ _ _ refl;
+        store = c.move_image.ensures.image_count;
+        sink = c.move_image.ensures.out_count;
+      };
+      kept = λ w. c.move_image.ensures.kept;
+      asks = c.move_image.ensures.asks;
+      ended = c.move_image.ensures.ended _ _;
+    })
+
+pub returns-in-Ok-Move-clause-put : goal.returns-in-Ok-Move-clause-put
+returns-in-Ok-Move-clause-put g c = plan_put (plan_of (texts c.args.words.now))
+    (OfMove (move_for c.in-Ok-Move.from c.in-Ok-Move.to)) _ _ _
+    (rw c.in-Ok-Move.field-0-is at c.in-Ok-Move.ensures.plan) c.move_image.ensures.put
+
+pub returns-in-Err-clause-put : goal.returns-in-Err-clause-put
+returns-in-Err-clause-put g c = plan_same (plan_of (texts c.args.words.now)) (Err c.in-Err.stop) _
+
+pub returns-in-Ok-Move-clause-asked : goal.returns-in-Ok-Move-clause-asked
+returns-in-Ok-Move-clause-asked g c = plan_fails (plan_of (texts c.args.words.now))
+    (OfMove (move_for c.in-Ok-Move.from c.in-Ok-Move.to)) _ _ _
+    (rw c.in-Ok-Move.field-0-is at c.in-Ok-Move.ensures.plan) (c.move_image.ensures.asked _ _)
+
+pub returns-in-Err-clause-asked : goal.returns-in-Err-clause-asked
+returns-in-Err-clause-asked g c = none_fails (plan_of (texts c.args.words.now)) _ _ (Err c.in-Err.stop)
+    (record { script = record { left = refl; source = refl }; given = refl; writes = refl })

@@ -1,0 +1,215 @@
+-- What a search answers
+use Rattle.std.proofs.Common.{◌≡◌, ◌≢◌, ℕ, ◌<◌, ◌≤◌, ◌+◌, ◌^◌, Bool, true, false, List, length, Result, Ok, Err, Option}
+use Rattle.std.proofs.Common.{Some, None, refl, sym, ap, ◌∙◌, arith, true≢false}
+use Rattle.std.specs.Prelude.{option_map, MatchOption, nat_le, not, is_ok}
+use Rattle.std.proofs.lemmas.Bool.{leb-true, leb-false, false_from_ne_true}
+use Rattle.std.proofs.lemmas.List.Sums.{count_by-le-length}
+use Rattle.zone_spec.specs.declared.Zone.{Zone}
+use Rattle.zone_spec.specs.declared.params.LayoutFault.{LayoutFault}
+use Rattle.zone_spec.specs.Layout.{layout_of}
+use Rattle.ramoops_layout.proofs.WholeLayout.{layout_short}
+use Rattle.layout_spec.specs.declared.Candidate.{Candidate}
+use Rattle.layout_spec.specs.declared.Known.{Known}
+use Rattle.layout_spec.specs.declared.Tally.{Tally}
+use Rattle.layout_spec.specs.Laid.{zones_of, params_of, has_layout}
+use Rattle.layout_spec.specs.Marks.{marks, fits}
+use Rattle.layout_spec.specs.Family.{is_of_family}
+use Rattle.layout_spec.specs.Order.{faults, tally_of, key, key_by, is_before}
+use Rattle.layout_spec.specs.Taken.{is_taken}
+use Rattle.layout_search.specs.Tried.{IsKept, IsSound, IsSettled, HasFew, HasMore, is_ahead}
+use Rattle.layout_search.specs.Answers.{IsAnswer, IsNext, IsAlone, IsEmpty, AreFaulty, MayGiveUp, is_narrow}
+use Rattle.layout_search.specs.declared.progress.Best.{Best}
+use Rattle.layout_search.specs.declared.progress.Progress.{Progress}
+use Rattle.layout_search.specs.declared.progress.Aim.{Aim}
+use Rattle.layout_search.specs.declared.progress.Effort.{Effort}
+use Rattle.layout_search.specs.declared.progress.Effort.TheVariants.{All}
+use Rattle.layout_search.proofs.Keys.{front_decides, less_before}
+use Rattle.layout_search.proofs.LaidOut.{found_zones}
+use Rattle.layout_search.proofs.BestSoFar.{family_layout}
+
+pub tally_faults : (image : List ℕ) (d : Candidate) → (tally_of image d).faults ≡ faults image (zones_of d)
+unfolding tally_of
+tally_faults image d = refl
+
+more_faults : (t u : Tally) (c d : Candidate) → u.faults < t.faults → is_before (key_by t c) (key_by u d) ≡ false
+unfolding key_by
+more_faults t u c d h = front_decides t.faults u.faults _ _ h
+
+fewer_faults : (t u : Tally) (c d : Candidate) → t.faults < u.faults → is_before (key_by t c) (key_by u d) ≡ true
+unfolding key_by
+fewer_faults t u c d h = less_before t.faults u.faults _ _ h
+
+-- with fewer faults than the best a layout is before it
+fewer_ahead : (known : Known) (image : List ℕ) (d : Candidate) (limit : ℕ) (best : Option Best) → HasMore limit best
+    → IsSound known image None best → faults image (zones_of d) ≤ limit → is_ahead (key image d) best ≡ true
+fewer_ahead known image d limit None more sound few = refl
+fewer_ahead known image d limit (Some b) more sound few =
+    ap (λ k. is_before (key image d) k) sound.key_is ∙ fewer_faults (tally_of image d) (tally_of image b.candidate) d
+    b.candidate (omega (arith, few, more, ap (λ (t : Tally). t.faults) sound.tally_is, tally_faults image d))
+
+-- if the best has more faults than the limit, and nothing with fewer is before it, there is nothing with fewer
+pub all_faulty : (known : Known) (image : List ℕ) (limit : ℕ) (best : Option Best) → HasMore limit best
+    → IsSound known image None best
+    → ((d : Candidate) → is_of_family known image d ≡ true → faults image (zones_of d) ≤ limit
+    → is_ahead (key image d) best ≡ false)
+    → AreFaulty known image limit
+all_faulty known image limit best more sound first d family = step (nat_le (faults image (zones_of d)) limit) refl
+  where
+    step : (b : Bool) → nat_le (faults image (zones_of d)) limit ≡ b → limit < faults image (zones_of d)
+    step true e = absurd (true≢false (sym (fewer_ahead known image d limit best more sound (leb-true _ _ e))
+        ∙ first d family (leb-true _ _ e)))
+    step false e = leb-false _ _ e
+
+-- the same of a search that has settled all
+pub none_left : (known : Known) (image : List ℕ) (aim : Aim) (s : Progress) → aim.besides ≡ None
+    → HasMore aim.limit s.best → IsSound known image None s.best → ((c : Candidate) → IsSettled known image aim c s)
+    → 0 < s.work → AreFaulty known image aim.limit
+none_left known image aim s all more sound settled work = all_faulty known image aim.limit s.best more sound
+    (λ d family few. (settled d).settled work family few
+    (λ e. let n : ◌≡◌ {A = Option Candidate} None (Some d) = sym all ∙ e in cc))
+
+zones_short : (d : Candidate) → has_layout d ≡ true → length (zones_of d) < 2 ^ 32
+zones_short d has = step (layout_of (params_of d)) refl has
+  where
+    step : (r : Result (List Zone) LayoutFault) → layout_of (params_of d) ≡ r → is_ok r ≡ true
+        → length (zones_of d) < 2 ^ 32
+    step (Ok zones) e h =
+        let same : length zones ≡ length (zones_of d) = ap (length {A = Zone}) (found_zones d zones e) in
+        omega (arith, same, layout_short (params_of d) zones e)
+    step (Err fault) e h = absurd (true≢false (sym h))
+
+-- no layout has more faults than this
+pub few_faults : (known : Known) (image : List ℕ) (d : Candidate) → marks image < 2 ^ 62
+    → is_of_family known image d ≡ true → faults image (zones_of d) ≤ 2 ^ 62 + 2 ^ 32
+few_faults known image d few family = omega (
+  arith,
+  few,
+  zones_short d (family_layout known image d family),
+  count_by-le-length (λ z. not (fits image z)) (zones_of d),
+)
+
+-- a search that has tried all, and found none with so many faults at most, has tried all
+pub all_first : (known : Known) (image : List ℕ) (s : Progress) (done : Bool) → marks image < 2 ^ 62
+    → (done ≡ true → 0 < s.work → (d : Candidate) → is_of_family known image d ≡ true
+    → is_ahead (key image d) s.best ≡ false)
+    → (done ≡ false → 0 < s.work → AreFaulty known image (2 ^ 62 + 2 ^ 32)) → 0 < s.work
+    → (d : Candidate) → is_of_family known image d ≡ true → is_ahead (key image d) s.best ≡ false
+all_first known image s true few first more work d family = first refl work d family
+all_first known image s false few first more work d family =
+    absurd (omega (arith, more refl work d family, few_faults known image d few family))
+
+-- if it has found none then, there is none
+pub nothing : (known : Known) (image : List ℕ) (best : Option Best) → best ≡ None
+    → ((d : Candidate) → is_of_family known image d ≡ true → is_ahead (key image d) best ≡ false)
+    → IsEmpty known image
+nothing known image None none first d =
+    false_from_ne_true (is_of_family known image d) (λ family. true≢false (first d family))
+nothing known image (Some b) none first d =
+    let n : ◌≡◌ {A = Option Best} (Some b) None = none in absurd cc
+
+-- it is one of the family otherwise
+pub some_by : (known : Known) (image : List ℕ) (best : Option Best) → IsSound known image None best
+    → (best ≡ None → IsEmpty known image) → MatchOption best (IsEmpty known image) (IsKept known image None)
+some_by known image None sound empty = empty refl
+some_by known image (Some b) sound empty = sound
+
+-- what bounds the search of all others
+pub gives_up : (known : Known) (image : List ℕ) (b : Best) (effort : Effort) (old new : ℕ) → IsKept known image None b
+    → ((d : Candidate) → is_of_family known image d ≡ true → is_ahead (key image d) (Some b) ≡ false)
+    → (is_narrow known ≡ true → effort ≡ All) → (b.tally.faults ≤ 1 → effort ≡ All) → (effort ≡ All → new ≡ old)
+    → 0 < old → new ≡ 0 → MayGiveUp known image
+gives_up known image b effort old new kept first narrow few all some ended = record {
+  wide = false_from_ne_true (is_narrow known) (λ e. absurd (omega (arith, all (narrow e), some, ended)));
+  faulty = all_faulty known image 1 (Some b) (more (nat_le b.tally.faults 1) refl) kept (λ d family few. first d family);
+}
+  where
+    more : (x : Bool) → nat_le b.tally.faults 1 ≡ x → 1 < b.tally.faults
+    more true e = absurd (omega (arith, all (few (leb-true _ _ e)), some, ended))
+    more false e = leb-false _ _ e
+
+-- what bounds the search of the first
+pub gives_up_first : (known : Known) (image : List ℕ) (effort : Effort) (old new : ℕ) → AreFaulty known image 1
+    → (is_narrow known ≡ true → effort ≡ All) → (effort ≡ All → new ≡ old) → 0 < old → new ≡ 0
+    → MayGiveUp known image
+gives_up_first known image effort old new faulty narrow all some ended = record {
+  wide = false_from_ne_true (is_narrow known) (λ e. absurd (omega (arith, all (narrow e), some, ended)));
+  faulty = faulty;
+}
+
+-- with few faults the best is before all that were not looked for
+pub done : (known : Known) (image : List ℕ) (aim : Aim) (s : Progress) → IsSound known image None s.best
+    → aim.besides ≡ None → HasFew aim.limit s.best → ((c : Candidate) → IsSettled known image aim c s) → 0 < s.work
+    → (d : Candidate) → is_of_family known image d ≡ true → is_ahead (key image d) s.best ≡ false
+done known image aim s sound all few settled work d family = step (nat_le (faults image (zones_of d)) aim.limit) refl
+  where
+    behind : (best : Option Best) → IsSound known image None best → HasFew aim.limit best
+        → aim.limit < faults image (zones_of d) → is_ahead (key image d) best ≡ false
+    behind None kept never more = absurd never
+    behind (Some b) kept few more =
+        ap (λ k. is_before (key image d) k) kept.key_is ∙ more_faults (tally_of image d) (tally_of image b.candidate) d
+        b.candidate (omega (arith, few, more, ap (λ (t : Tally). t.faults) kept.tally_is, tally_faults image d))
+
+    besides : aim.besides ≢ Some d
+    besides e = let n : ◌≡◌ {A = Option Candidate} None (Some d) = sym all ∙ e in cc
+
+    step : (b : Bool) → nat_le (faults image (zones_of d)) aim.limit ≡ b → is_ahead (key image d) s.best ≡ false
+    step true e = (settled d).settled work family (leb-true _ _ e) besides
+    step false e = behind s.best sound few (leb-false _ _ e)
+
+-- the answer that is not whole
+pub partly : (known : Known) (image : List ℕ) (b : Best) (rival : Option Candidate) → IsKept known image None b
+    → MayGiveUp known image
+    → IsAnswer known image (record {
+      candidate = b.candidate;
+      tally = b.tally;
+      taken = is_taken b.tally;
+      rival = rival;
+      whole = false;
+    })
+partly known image b rival kept given_up = record {
+  of_family = kept.of_family;
+  tally_is = kept.tally_is;
+  taken_is = ap is_taken kept.tally_is;
+  part = λ e. given_up;
+  first = λ e. absurd (true≢false (sym e));
+  next = λ e. absurd (true≢false (sym e));
+}
+
+-- the next one, or that there is none
+next_is : (known : Known) (image : List ℕ) (b : Best) (best : Option Best) → IsKept known image None b
+    → IsSound known image (Some b.candidate) best
+    → ((d : Candidate) → is_of_family known image d ≡ true → b.candidate ≢ d
+    → faults image (zones_of d) ≤ b.tally.faults → is_ahead (key image d) best ≡ false)
+    → MatchOption (option_map (λ (r : Best). r.candidate) best) (IsAlone known image b.candidate)
+    (IsNext known image b.candidate)
+next_is known image b None kept sound all = λ d family differs few. true≢false (all d family differs
+    (omega (arith, few, ap (λ (t : Tally). t.faults) kept.tally_is, tally_faults image b.candidate)))
+next_is known image b (Some r) kept sound all = record {
+  of_family = sound.of_family;
+  differs = λ e. sound.other (ap Some e);
+  next = λ d family differs few. sym (ap (λ k. is_before (key image d) k) sound.key_is) ∙ all d family differs
+      (omega (arith, few, ap (λ (t : Tally). t.faults) kept.tally_is, tally_faults image b.candidate));
+}
+
+-- the whole answer
+pub wholly : (known : Known) (image : List ℕ) (b : Best) (best : Option Best) (whole : Bool) → IsKept known image None b
+    → ((d : Candidate) → is_of_family known image d ≡ true → is_before (key image d) b.key ≡ false)
+    → IsSound known image (Some b.candidate) best
+    → (whole ≡ true → (d : Candidate) → is_of_family known image d ≡ true → b.candidate ≢ d
+    → faults image (zones_of d) ≤ b.tally.faults → is_ahead (key image d) best ≡ false)
+    → (whole ≡ false → MayGiveUp known image)
+    → IsAnswer known image (record {
+      candidate = b.candidate;
+      tally = b.tally;
+      taken = is_taken b.tally;
+      rival = option_map (λ (r : Best). r.candidate) best;
+      whole = whole;
+    })
+wholly known image b best whole kept first sound all part = record {
+  of_family = kept.of_family;
+  tally_is = kept.tally_is;
+  taken_is = ap is_taken kept.tally_is;
+  part = part;
+  first = λ e d family. sym (ap (λ k. is_before (key image d) k) kept.key_is) ∙ first d family;
+  next = λ e. next_is known image b best kept sound (all e);
+}

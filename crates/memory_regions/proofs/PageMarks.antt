@@ -1,0 +1,113 @@
+-- The marked pages of two pieces of a memory are those of the first and those of the second further on. For
+-- `add_marked` and `marked_pages`.
+use Rattle.std.proofs.Common.{◌≡◌, ◌∙◌, ℕ, zero, suc, ◌+◌, ◌*◌, ◌/◌, ◌<◌, ◌≤◌, Bool, true, false, cond, List, [], ◌∷◌}
+use Rattle.std.proofs.Common.{◌++◌, length, map, refl, sym, ap, ap₂, arith, length-append, lit<, append_assoc}
+use Rattle.std.proofs.Common.{add_assoc, ◌%◌, min}
+use Rattle.std.specs.Prelude.{slice_index}
+use Rattle.std.specs.List.{range_with_len, filter}
+use Rattle.std.proofs.lemmas.List.{get_or_append_left, get_or-append-add}
+use Rattle.std.proofs.lemmas.List.Elements.{filter-append}
+use Rattle.list_laws.proofs.Ranges.{range_with_len-add}
+use Rattle.layout_spec.specs.Marks.{is_mark}
+use Rattle.memory_spec.specs.Pages.{is_marked, marked, pages}
+
+-- one page more
+pub filter_more : (p : ℕ → Bool) (n : ℕ)
+    → filter p (range_with_len 0 (n + 1)) ≡ filter p (range_with_len 0 n) ++ cond (p n) (n ∷ []) []
+filter_more p n =
+    ap (filter p) (range_with_len-add 0 n 1)
+    ∙ filter-append p (range_with_len 0 n) (range_with_len (0 + n) 1)
+    ∙ ap (λ m. filter p (range_with_len 0 n) ++ cond (p m) (m ∷ []) []) (let e : 0 + n ≡ n = omega arith in e)
+
+map_append : (f : ℕ → ℕ) (xs ys : List ℕ) → map f (xs ++ ys) ≡ map f xs ++ map f ys
+map_append f [] ys = refl
+map_append f (x ∷ xs) ys = ap (λ zs. f x ∷ zs) (map_append f xs ys)
+
+one_mapped : (k n : ℕ) (b : Bool) → map (λ i. k + i) (cond b (n ∷ []) []) ≡ cond b ((k + n) ∷ []) []
+one_mapped k n true = refl
+one_mapped k n false = refl
+
+-- the pages of a piece, further on, and one more
+pub marked_more : (p : ℕ → Bool) (k n : ℕ)
+    → map (λ i. k + i) (filter p (range_with_len 0 (n + 1)))
+    ≡ map (λ i. k + i) (filter p (range_with_len 0 n)) ++ cond (p n) ((k + n) ∷ []) []
+marked_more p k n =
+    ap (map (λ i. k + i)) (filter_more p n)
+    ∙ map_append (λ i. k + i) (filter p (range_with_len 0 n)) (cond (p n) (n ∷ []) [])
+    ∙ ap (λ xs. map (λ i. k + i) (filter p (range_with_len 0 n)) ++ xs) (one_mapped k n (p n))
+
+-- the same, behind what was there
+pub one_more : (p : ℕ → Bool) (k n : ℕ) (b : Bool) (old now new : List ℕ)
+    → now ≡ old ++ map (λ i. k + i) (filter p (range_with_len 0 n)) → p n ≡ b → new ≡ now ++ cond b ((k + n) ∷ []) []
+    → new ≡ old ++ map (λ i. k + i) (filter p (range_with_len 0 (n + 1)))
+one_more p k n b old now new h e added =
+    added ∙ ap₂ ◌++◌ h (ap (λ c. cond c ((k + n) ∷ []) []) (sym e))
+    ∙ append_assoc old (map (λ i. k + i) (filter p (range_with_len 0 n))) (cond (p n) ((k + n) ∷ []) [])
+    ∙ ap (λ xs. old ++ xs) (sym (marked_more p k n))
+
+-- tests that agree on a row keep the same numbers of it
+filter_agrees : (p q : ℕ → Bool) (a n : ℕ) → ((i : ℕ) → a ≤ i → i < a + n → p i ≡ q i)
+    → filter p (range_with_len a n) ≡ filter q (range_with_len a n)
+filter_agrees p q a zero same = refl
+filter_agrees p q a (suc n) same =
+    ap₂ (λ (b : Bool) (xs : List ℕ). cond b (a ∷ xs) xs) (same a (omega arith) (omega arith))
+    (filter_agrees p q (a + 1) n (λ i low high. same i (omega arith) (omega arith)))
+
+map_cond : (k a : ℕ) (b : Bool) (xs : List ℕ)
+    → map (λ i. k + i) (cond b (a ∷ xs) xs) ≡ cond b ((k + a) ∷ map (λ i. k + i) xs) (map (λ i. k + i) xs)
+map_cond k a true xs = refl
+map_cond k a false xs = refl
+
+-- a row further on
+filter_shifted : (p q : ℕ → Bool) (k a n : ℕ) → ((i : ℕ) → p (k + i) ≡ q i)
+    → filter p (range_with_len (k + a) n) ≡ map (λ i. k + i) (filter q (range_with_len a n))
+filter_shifted p q k a zero same = refl
+filter_shifted p q k a (suc n) same =
+    let next : k + a + 1 ≡ k + (a + 1) = omega arith in
+    ap₂ (λ (b : Bool) (xs : List ℕ). cond b ((k + a) ∷ xs) xs) (same a)
+    (ap (λ m. filter p (range_with_len m n)) next ∙ filter_shifted p q k (a + 1) n same)
+    ∙ sym (map_cond k a (q a) (filter q (range_with_len (a + 1) n)))
+
+-- a mark reads twelve bytes
+mark_same : (xs ys : List ℕ) (at to : ℕ) → ((i : ℕ) → i < 12 → slice_index xs (at + i) ≡ slice_index ys (to + i))
+    → is_mark xs at ≡ is_mark ys to
+unfolding is_mark
+mark_same xs ys at to same =
+    let e0 : slice_index xs at ≡ slice_index ys to =
+    ap (slice_index xs) (let e : at ≡ at + 0 = omega arith in e) ∙ same 0 (lit< tt)
+    ∙ ap (slice_index ys) (let e : to + 0 ≡ to = omega arith in e) in
+    rw (e0, same 1 (lit< tt), same 2 (lit< tt), same 3 (lit< tt), same 7 (lit< tt), same 11 (lit< tt)) refl
+
+-- the pages of a first piece of whole pages, and those behind it
+front_same : (xs ys : List ℕ) (k i : ℕ) → length xs ≡ 4096 * k → i < k
+    → is_marked (xs ++ ys) i ≡ is_marked xs i
+front_same xs ys k i len h = mark_same (xs ++ ys) xs (4096 * i) (4096 * i)
+    (λ j small. get_or_append_left xs ys 0 (4096 * i + j) (omega (arith, len, h, small)))
+
+rest_same : (xs ys : List ℕ) (k i : ℕ) → length xs ≡ 4096 * k
+    → is_marked (xs ++ ys) (k + i) ≡ is_marked ys i
+rest_same xs ys k i len = mark_same (xs ++ ys) ys (4096 * (k + i)) (4096 * i)
+    (λ j small. ap (slice_index (xs ++ ys)) (let e : 4096 * (k + i) + j ≡ length xs + (4096 * i + j) = omega (arith, len) in e)
+    ∙ get_or-append-add xs ys (4096 * i + j) 0)
+
+pages_add : (k n : ℕ) → pages (4096 * k + n) ≡ k + pages n
+pages_add k n =
+    let q : (4096 * k + n) / 4096 ≡ k + n / 4096 = omega arith in
+    let r : (4096 * k + n) % 4096 ≡ n % 4096 = omega arith in
+    ap₂ (λ (a b : ℕ). a + min 1 b) q r ∙ add_assoc k (n / 4096) (min 1 (n % 4096))
+
+pub marked-append : (xs ys : List ℕ) (k : ℕ) → length xs ≡ 4096 * k
+    → marked (xs ++ ys) ≡ marked xs ++ map (λ i. k + i) (marked ys)
+unfolding marked
+marked-append xs ys k len =
+    let long : length (xs ++ ys) ≡ 4096 * k + length ys = length-append xs ys ∙ ap (λ n. n + length ys) len in
+    let first : pages (length xs) ≡ k = ap pages len ∙ ap pages (let e : 4096 * k ≡ 4096 * k + 0 = omega arith in e)
+    ∙ pages_add k 0 ∙ (let e : k + 0 ≡ k = omega arith in e) in
+    ap (λ n. filter (is_marked (xs ++ ys)) (range_with_len 0 n)) (ap pages long ∙ pages_add k (length ys))
+    ∙ ap (filter (is_marked (xs ++ ys))) (range_with_len-add 0 k (pages (length ys)))
+    ∙ filter-append (is_marked (xs ++ ys)) (range_with_len 0 k) (range_with_len (0 + k) (pages (length ys)))
+    ∙ ap₂ ◌++◌
+    (filter_agrees (is_marked (xs ++ ys)) (is_marked xs) 0 k (λ i low high. front_same xs ys k i len (omega arith))
+    ∙ ap (λ n. filter (is_marked xs) (range_with_len 0 n)) (sym first))
+    (ap (λ n. filter (is_marked (xs ++ ys)) (range_with_len n (pages (length ys)))) (let e : 0 + k ≡ k + 0 = omega arith in e)
+    ∙ filter_shifted (is_marked (xs ++ ys)) (is_marked ys) k 0 (pages (length ys)) (λ i. rest_same xs ys k i len))

@@ -1,8 +1,0 @@
--- Lemmas on an image's zones, on how records are shown, and on the console that tells more. The
--- crate's functions cite them.
-pub mod Zones
-pub mod Each
-pub mod OneWay
-pub mod Later
-pub mod Consoles
-pub mod AndroidLogs

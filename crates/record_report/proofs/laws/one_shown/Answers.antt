@@ -1,6 +1,0 @@
--- A record is shown in one way. By `OneWay`.
-use Rattle.record_report.proofs.OneWay.{one_shown}
-use Rattle.record_report.proofs.laws.one_shown.Goals as goal
-
-pub returns : goal.returns
-returns c = one_shown

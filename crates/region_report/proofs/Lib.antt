@@ -1,0 +1,8 @@
+-- Lemmas on an image's zones, on how records are shown, and on the console that tells more. The
+-- crate's functions cite them.
+pub mod Zones
+pub mod OneMoreRecord
+pub mod OneWay
+pub mod Later
+pub mod Consoles
+pub mod AndroidLogs

@@ -1,0 +1,101 @@
+// Which record tells why the machine died, and how.
+ghost use Rattle.std.specs.Prelude.{◌≡◌};
+ghost use Rattle.std.specs.Option.{option_copied};
+ghost use Rattle.report_spec.specs.Packed.{readable};
+ghost use Rattle.report_spec.specs.Deaths.{told_by, stamped, has_line, last_line, is_panic_beyond, tells_more, told_of};
+ghost use Rattle.report_spec.specs.Deaths.{death_told};
+ghost use Rattle.region_report.specs.Tellers.{as_told, told_in};
+
+use crate::newest::{console, newest_dump};
+use crate::shown::RecordReport;
+use death::{death, is_a, next_line, part};
+use death_spec::{Death, Line, Mark};
+
+/// A record, and why the machine died by what people read of it.
+#[derive(Clone, Copy)]
+pub struct Telling<'a> {
+    pub teller: &'a RecordReport,
+    pub death: Death,
+}
+
+fn told_by(teller: Option<&RecordReport>) -> Option<Telling<'_>>
+    ensures { told_in result ≡ told_by (option_copied teller.entry) }
+{
+    let teller = teller?;
+    let death = death(teller.readable())?;
+    Some(Telling { teller, death })
+}
+
+fn stamped(text: &[u8], line: Line) -> &[u8]
+    ensures { result.now ≡ stamped text.now line }
+{
+    part(text, line.stamp, line.end)
+}
+
+fn has_line(text: &[u8], words: &[u8]) -> bool
+    ensures { result ≡ has_line text.now words.now }
+{
+    let mut at = 0;
+    'lines: while let Some(line) = next_line(text, at) {
+        if stamped(text, line) == words {
+            return true;
+        }
+        at = line.next;
+    }
+    false
+}
+
+/// Whether a record has the telling line too, from its stamp on.
+pub fn has_telling_line(entry: &RecordReport, told: &Telling<'_>) -> bool
+    ensures { result ≡ has_line (readable entry.now)
+        (stamped (readable (as_told told.now).teller) told.now.death.telling) }
+{
+    has_line(
+        entry.readable(),
+        stamped(told.teller.readable(), told.death.telling),
+    )
+}
+
+fn last_line(death: Death) -> Line
+    ensures { result ≡ last_line death death.second }
+{
+    match death.second {
+        Some(panic) => panic,
+        None => death.telling,
+    }
+}
+
+fn is_panic_beyond(dump: &RecordReport, text: &[u8], line: Line) -> bool
+    ensures { result ≡ is_panic_beyond dump.now text.now line }
+{
+    is_a(text, Mark::Panic, line) && !has_line(dump.readable(), stamped(text, line))
+}
+
+// Whether the console ends in a panic that the dump lacks.
+fn tells_more(console: &Telling<'_>, dump: &Telling<'_>) -> bool
+    ensures { result ≡ tells_more (as_told console.now) (as_told dump.now) }
+{
+    let text = console.teller.readable();
+    is_panic_beyond(dump.teller, text, last_line(console.death))
+}
+
+fn told_of<'a>(dump: Option<Telling<'a>>, console: Option<Telling<'a>>) -> Option<Telling<'a>>
+    ensures { told_in result ≡ told_of (told_in dump.entry) (told_in console.entry) }
+{
+    let Some(dump) = dump else {
+        return console;
+    };
+    match console {
+        Some(console) if tells_more(&console, &dump) => Some(console),
+        _ => Some(dump),
+    }
+}
+
+/// Which of the records tells why the machine died, and how; `None` if no record tells. It takes no memory, and time
+/// linear in the newest dump and the console.
+#[tactic(auto, unfolding(report_spec::specs::Deaths::death_told))]
+pub fn death_told(records: &[RecordReport]) -> Option<Telling<'_>>
+    ensures { told_in result ≡ death_told records.now }
+{
+    told_of(told_by(newest_dump(records)), told_by(console(records)))
+}

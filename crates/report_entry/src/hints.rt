@@ -1,0 +1,204 @@
+// The lines on a layout that was looked for.
+ghost use Rattle.std.specs.Prelude.{◌≡◌, ◌↔◌, ◌++◌, IsTrue, decimal, string_bytes, IfOk, OnOk};
+ghost use Rattle.zone_spec.specs.Layout.{layout_of};
+ghost use Rattle.layout_spec.specs.Laid.{params_of};
+ghost use Rattle.report_entry.specs.Hints.{hexadecimal, memory_words, size_words, tagged_words, ftrace_words};
+ghost use Rattle.report_entry.specs.Hints.{layout_words, faults_text, found_line, rival_text, LiesAs, LieAlike};
+ghost use Rattle.report_entry.specs.Hints.{AreAlike, IsRivalLine, IsTakenHint, best_hint};
+
+use layout_search::{Candidate, Found, params};
+use ramoops_layout::{LayoutError, layout};
+use std::alloc::{AllocError, Global};
+use zone_spec::Zone;
+
+// Appends words and a number after them.
+fn push_number(alloc: Global, text: &mut String, words: &str, n: u64) -> Result<(), AllocError>
+    ensures { OnOk result (string_bytes text.new ≡ string_bytes text.old ++ words.now ++ decimal n) }
+{
+    text.push_str(words)?;
+    text.push_str(&n.to_string(alloc)?)?;
+    Ok(())
+}
+
+#[tactic(auto, unfolding(crate::specs::Hints::hexadecimal))]
+fn hexadecimal(alloc: Global, n: u32) -> Result<String, AllocError>
+    ensures { IfOk result (λ text. string_bytes text ≡ hexadecimal n) }
+{
+    format!(in alloc; "{n:x}")
+}
+
+fn memory_words(alloc: Global, c: &Candidate, size: u64) -> Result<String, AllocError>
+    ensures { IfOk result (λ text. string_bytes text ≡ memory_words c.now size) }
+{
+    let mut text = String::new(alloc);
+    if c.mem == size {
+        return Ok(text);
+    }
+    push_number(alloc, &mut text, "mem_size=", c.mem)?;
+    text.push_str(" ")?;
+    Ok(text)
+}
+
+fn size_words(alloc: Global, c: &Candidate) -> Result<String, AllocError>
+    ensures { IfOk result (λ text. string_bytes text ≡ size_words c.now) }
+{
+    let mut text = String::new(alloc);
+    push_number(alloc, &mut text, "record_size=", c.dump)?;
+    push_number(alloc, &mut text, " console_size=", c.console)?;
+    push_number(alloc, &mut text, " ftrace_size=", c.ftrace)?;
+    push_number(alloc, &mut text, " pmsg_size=", c.pmsg)?;
+    push_number(alloc, &mut text, " ecc=", c.parity)?;
+    Ok(text)
+}
+
+fn tagged_words(alloc: Global, c: &Candidate) -> Result<String, AllocError>
+    ensures { IfOk result (λ text. string_bytes text ≡ tagged_words c.now) }
+{
+    let tag = hexadecimal(alloc, c.tag)?;
+    let mut text = String::new(alloc);
+    push_number(alloc, &mut text, " cpus=", c.cpus)?;
+    text.push_str(" ftrace_sig=0x")?;
+    text.push_str(&tag)?;
+    Ok(text)
+}
+
+fn ftrace_words(alloc: Global, c: &Candidate) -> Result<String, AllocError>
+    ensures { IfOk result (λ text. string_bytes text ≡ ftrace_words c.now) }
+{
+    if c.ftrace == 0 {
+        return Ok(String::new(alloc));
+    }
+    tagged_words(alloc, c)
+}
+
+// The words that give a layout which was found in an image of so many bytes.
+#[tactic(auto, unfolding(crate::specs::Hints::layout_words))]
+fn layout_words(alloc: Global, c: &Candidate, size: u64) -> Result<String, AllocError>
+    ensures { IfOk result (λ text. string_bytes text ≡ layout_words c.now size) }
+{
+    let mut text = memory_words(alloc, c, size)?;
+    text.push_str(&size_words(alloc, c)?)?;
+    text.push_str(&ftrace_words(alloc, c)?)?;
+    Ok(text)
+}
+
+fn faults_text(alloc: Global, faults: u64) -> Result<String, AllocError>
+    ensures { IfOk result (λ text. string_bytes text ≡ faults_text faults) }
+{
+    let mut text = String::new(alloc);
+    if faults == 0 {
+        return Ok(text);
+    }
+    push_number(alloc, &mut text, ", but for ", faults)?;
+    text.push_str(" places")?;
+    Ok(text)
+}
+
+#[tactic(auto, unfolding(crate::specs::Hints::found_line))]
+fn found_line(
+    alloc: Global,
+    name: &str,
+    size: u64,
+    faults: u64,
+    words: &str,
+) -> Result<String, AllocError>
+    ensures { IfOk result (λ text. string_bytes text ≡ found_line name.now size faults words.now) }
+{
+    let mut text = String::from_str(alloc, name)?;
+    push_number(alloc, &mut text, ": ", size)?;
+    text.push_str(" bytes; layout found")?;
+    text.push_str(&faults_text(alloc, faults)?)?;
+    text.push_str(": ")?;
+    text.push_str(words)?;
+    text.push_str("\n")?;
+    Ok(text)
+}
+
+fn lies_as(one: &Zone, other: &Zone) -> bool
+    ensures { IsTrue result ↔ LiesAs one.now other.now }
+{
+    one.at == other.at && one.size == other.size
+}
+
+// Whether zones lie in the same places.
+fn lie_alike(one: &[Zone], other: &[Zone]) -> bool
+    ensures { IsTrue result ↔ LieAlike one.now other.now }
+{
+    if one.len() != other.len() {
+        return false;
+    }
+    for i in 0..one.len() {
+        if !lies_as(&one[i], &other[i]) {
+            return false;
+        }
+    }
+    true
+}
+
+// Whether the zones of two layouts lie in the same places, so that only their kinds differ.
+fn are_alike(alloc: Global, one: &Candidate, other: &Candidate) -> Result<bool, AllocError>
+    ensures { IfOk result (λ r. IsTrue r ↔ AreAlike (layout_of (params_of one.now)) (layout_of (params_of other.now))) }
+{
+    let one = match layout(alloc, &params(one)) {
+        Ok(layout) => layout,
+        Err(LayoutError::Memory) => return Err(AllocError),
+        Err(LayoutError::Fault(_)) => return Ok(false),
+    };
+    match layout(alloc, &params(other)) {
+        Ok(other) => Ok(lie_alike(one.zones(), other.zones())),
+        Err(LayoutError::Memory) => Err(AllocError),
+        Err(LayoutError::Fault(_)) => Ok(false),
+    }
+}
+
+#[tactic(auto, unfolding(crate::specs::Hints::rival_text))]
+fn rival_text(alloc: Global, alike: bool, words: &str) -> Result<String, AllocError>
+    ensures { IfOk result (λ text. string_bytes text ≡ rival_text alike words.now) }
+{
+    let what = match alike {
+        true => "kinds are taken for likely; the same zones could be: ",
+        false => "another layout explains as much: ",
+    };
+    let mut text = String::from_str(alloc, what)?;
+    text.push_str(words)?;
+    text.push_str("\n")?;
+    Ok(text)
+}
+
+fn rival_line(alloc: Global, found: &Found, size: u64) -> Result<String, AllocError>
+    ensures { IfOk result (λ text. IsRivalLine found.now.candidate found.now.rival size (string_bytes text)) }
+{
+    match &found.rival {
+        Some(rival) => {
+            let alike = are_alike(alloc, &found.candidate, rival)?;
+            rival_text(alloc, alike, &layout_words(alloc, rival, size)?)
+        }
+        None => Ok(String::new(alloc)),
+    }
+}
+
+/// The lines on a layout that is taken: its words, and those of another that explains the image as well. `name` stands
+/// for the path of the image, which has `size` bytes.
+pub fn taken_hint(alloc: Global, name: &str, size: u64, found: &Found) -> Result<String, AllocError>
+    ensures { IfOk result (λ text. IsTakenHint name.now size found.now (string_bytes text)) }
+{
+    let words = layout_words(alloc, &found.candidate, size)?;
+    let mut text = found_line(alloc, name, size, found.tally.faults, &words)?;
+    text.push_str(&rival_line(alloc, found, size)?)?;
+    Ok(text)
+}
+
+/// The line on the best layout, where none is taken.
+#[tactic(auto, unfolding(crate::specs::Hints::best_hint))]
+pub fn best_hint(alloc: Global, name: &str, size: u64, found: &Found) -> Result<String, AllocError>
+    ensures { IfOk result (λ text. string_bytes text ≡ best_hint name.now size found.now) }
+{
+    let mut text = String::from_str(alloc, name)?;
+    text.push_str(": best layout: ")?;
+    text.push_str(&layout_words(alloc, &found.candidate, size)?)?;
+    push_number(alloc, &mut text, " (", found.tally.fits)?;
+    push_number(alloc, &mut text, " of ", found.tally.zones)?;
+    push_number(alloc, &mut text, " zones fit, faults: ", found.tally.faults)?;
+    text.push_str(")\n")?;
+    Ok(text)
+}

@@ -1,9 +1,0 @@
--- The row `stopped_before_first_store`: a boot cut before its first store leaves what was told.
--- The checker computes it.
-use Rattle.std.proofs.Common.{refl}
-use Rattle.spec_rows.proofs.Computing.{computing_all}
-use Rattle.spec_rows.proofs.boots.stopped_before_first_store.Goals as goal
-
-pub returns : goal.returns
-unfolding computing_all
-returns c = refl

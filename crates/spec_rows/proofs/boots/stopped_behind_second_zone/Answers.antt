@@ -1,9 +1,0 @@
--- The row `stopped_behind_second_zone`: a boot cut after the last store of its second zone. The
--- checker computes it.
-use Rattle.std.proofs.Common.{refl}
-use Rattle.spec_rows.proofs.Computing.{computing_all}
-use Rattle.spec_rows.proofs.boots.stopped_behind_second_zone.Goals as goal
-
-pub returns : goal.returns
-unfolding computing_all
-returns c = refl

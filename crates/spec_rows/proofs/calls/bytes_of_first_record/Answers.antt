@@ -1,9 +1,0 @@
--- The row `bytes_of_first_record`: the bytes of a first record, between zones that are empty. The
--- checker computes it.
-use Rattle.std.proofs.Common.{refl}
-use Rattle.spec_rows.proofs.Computing.{computing_all}
-use Rattle.spec_rows.proofs.calls.bytes_of_first_record.Goals as goal
-
-pub returns : goal.returns
-unfolding computing_all
-returns c = (refl, refl, refl, refl)

@@ -1,9 +1,0 @@
--- The row `cut_erasure_of_large_ring`: an erasure of a ring of 4084 bytes, cut after its start
--- word. The checker computes it.
-use Rattle.std.proofs.Common.{refl}
-use Rattle.spec_rows.proofs.Computing.{computing_all}
-use Rattle.spec_rows.proofs.calls.cut_erasure_of_large_ring.Goals as goal
-
-pub returns : goal.returns
-unfolding computing_all
-returns c = (refl, refl, refl)

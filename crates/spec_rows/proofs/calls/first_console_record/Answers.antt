@@ -1,9 +1,0 @@
--- The row `first_console_record`: what a console was told is read at the next boot, listed, and
--- erased. The checker computes it.
-use Rattle.std.proofs.Common.{refl}
-use Rattle.spec_rows.proofs.Computing.{computing_all}
-use Rattle.spec_rows.proofs.calls.first_console_record.Goals as goal
-
-pub returns : goal.returns
-unfolding computing_all
-returns c = (refl, refl, refl, refl)

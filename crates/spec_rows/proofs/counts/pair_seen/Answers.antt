@@ -1,8 +1,0 @@
--- The row `pair_seen`: which pair a header reads. The checker computes it.
-use Rattle.std.proofs.Common.{refl}
-use Rattle.spec_rows.proofs.Computing.{computing_all}
-use Rattle.spec_rows.proofs.counts.pair_seen.Goals as goal
-
-pub returns : goal.returns
-unfolding computing_all
-returns c = (refl, refl, refl, refl)

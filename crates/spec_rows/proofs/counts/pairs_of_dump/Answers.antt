@@ -1,8 +1,0 @@
--- The row `pairs_of_dump`: the words that a dump goes through. The checker computes it.
-use Rattle.std.proofs.Common.{refl}
-use Rattle.spec_rows.proofs.Computing.{computing_all}
-use Rattle.spec_rows.proofs.counts.pairs_of_dump.Goals as goal
-
-pub returns : goal.returns
-unfolding computing_all
-returns c = refl

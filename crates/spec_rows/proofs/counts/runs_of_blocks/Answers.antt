@@ -1,8 +1,0 @@
--- The row `runs_of_blocks`: numbers of blocks as runs. The checker computes it.
-use Rattle.std.proofs.Common.{refl}
-use Rattle.spec_rows.proofs.Computing.{computing_all}
-use Rattle.spec_rows.proofs.counts.runs_of_blocks.Goals as goal
-
-pub returns : goal.returns
-unfolding computing_all
-returns c = (refl, refl, refl)

@@ -1,8 +1,0 @@
--- The row `stores_of_dump`: how many stores a dump makes. The checker computes it.
-use Rattle.std.proofs.Common.{refl}
-use Rattle.spec_rows.proofs.Computing.{computing_all}
-use Rattle.spec_rows.proofs.counts.stores_of_dump.Goals as goal
-
-pub returns : goal.returns
-unfolding computing_all
-returns c = (refl, refl, refl)

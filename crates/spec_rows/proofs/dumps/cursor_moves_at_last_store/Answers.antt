@@ -1,9 +1,0 @@
--- The row `cursor_moves_at_last_store`: the cursor moves with a dump's last store, and a boot sets
--- it back. The checker computes it.
-use Rattle.std.proofs.Common.{refl}
-use Rattle.spec_rows.proofs.Computing.{computing_all}
-use Rattle.spec_rows.proofs.dumps.cursor_moves_at_last_store.Goals as goal
-
-pub returns : goal.returns
-unfolding computing_all
-returns c = (refl, refl, refl, refl, refl)

@@ -1,9 +1,0 @@
--- The row `cut_boots_written`: two boots that are cut. The checker computes it.
-use Rattle.std.proofs.Common.{refl}
-use Rattle.spec_rows.proofs.Computing.{computing_all}
-use Rattle.history_spec.specs.Written.{written}
-use Rattle.spec_rows.proofs.histories.cut_boots_written.Goals as goal
-
-pub returns : goal.returns
-unfolding computing_all written
-returns c = refl

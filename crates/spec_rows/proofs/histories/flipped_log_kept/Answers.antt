@@ -1,9 +1,0 @@
--- The row `flipped_log_kept`: a flip, and two boots that are cut. The checker computes it.
-use Rattle.std.proofs.Common.{refl}
-use Rattle.spec_rows.proofs.Computing.{computing_all}
-use Rattle.history_spec.specs.Written.{written}
-use Rattle.spec_rows.proofs.histories.flipped_log_kept.Goals as goal
-
-pub returns : goal.returns
-unfolding computing_all written
-returns c = refl

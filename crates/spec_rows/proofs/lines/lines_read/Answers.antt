@@ -1,8 +1,0 @@
--- The row `lines_read`: time lines as they are read. The checker computes it.
-use Rattle.std.proofs.Common.{refl}
-use Rattle.spec_rows.proofs.Computing.{computing_all}
-use Rattle.spec_rows.proofs.lines.lines_read.Goals as goal
-
-pub returns : goal.returns
-unfolding computing_all
-returns c = (refl, refl, refl)

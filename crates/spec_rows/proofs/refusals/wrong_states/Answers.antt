@@ -1,8 +1,0 @@
--- The row `wrong_states`: what a state has not. The checker computes it.
-use Rattle.std.proofs.Common.{refl}
-use Rattle.spec_rows.proofs.Computing.{computing_all}
-use Rattle.spec_rows.proofs.refusals.wrong_states.Goals as goal
-
-pub returns : goal.returns
-unfolding computing_all
-returns c = (refl, refl)

@@ -1,6 +1,0 @@
--- If no further step of a flight can be made, further steps change nothing. By `Steps`.
-use Rattle.tool_laws.proofs.Steps.{steps_end as law}
-use Rattle.tool_laws.proofs.steps_end.Goals as goal
-
-pub returns : goal.returns
-returns c = law

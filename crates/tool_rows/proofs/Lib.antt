@@ -1,3 +1,0 @@
--- What lets the checker compute a row, and a corrected ring. The rows cite them.
-pub mod Computing
-pub mod Corrected

@@ -1,9 +1,0 @@
--- The row `first_block_session`: a console record and a dump of the block store. The checker
--- computes it.
-use Rattle.std.proofs.Common.{refl}
-use Rattle.tool_rows.proofs.Computing.{computing_blk}
-use Rattle.tool_rows.proofs.first_block_session.Goals as goal
-
-pub returns : goal.returns
-unfolding computing_blk
-returns c = refl

@@ -1,9 +1,0 @@
--- The row `move_of_unlisted_dump`: a move of a dump zone without a time line. The checker computes
--- it.
-use Rattle.std.proofs.Common.{refl}
-use Rattle.tool_rows.proofs.Computing.{computing_calls}
-use Rattle.tool_rows.proofs.move_of_unlisted_dump.Goals as goal
-
-pub returns : goal.returns
-unfolding computing_calls
-returns c = (refl, refl)

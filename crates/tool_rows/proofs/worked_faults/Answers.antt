@@ -1,9 +1,0 @@
--- The row `worked_faults`: words, parameters, layouts and images that are refused. The checker
--- computes it.
-use Rattle.std.proofs.Common.{refl}
-use Rattle.tool_rows.proofs.Computing.{computing_tool}
-use Rattle.tool_rows.proofs.worked_faults.Goals as goal
-
-pub returns : goal.returns
-unfolding computing_tool
-returns c = (refl, refl, refl, refl, refl, refl, refl, refl, refl, refl, refl)

@@ -1,9 +1,0 @@
--- The row `worked_layouts`: layouts with and without parity, of odd sizes, and with small blocks.
--- The checker computes it.
-use Rattle.std.proofs.Common.{refl}
-use Rattle.tool_rows.proofs.Computing.{computing_tool}
-use Rattle.tool_rows.proofs.worked_layouts.Goals as goal
-
-pub returns : goal.returns
-unfolding computing_tool
-returns c = (refl, refl, refl)

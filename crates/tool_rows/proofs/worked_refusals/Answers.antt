@@ -1,8 +1,0 @@
--- The row `worked_refusals`: lines that are bad or refused. The checker computes it.
-use Rattle.std.proofs.Common.{refl}
-use Rattle.tool_rows.proofs.Computing.{computing_tool}
-use Rattle.tool_rows.proofs.worked_refusals.Goals as goal
-
-pub returns : goal.returns
-unfolding computing_tool
-returns c = (refl, refl, refl, refl, refl, refl, refl, refl)

@@ -1,0 +1,31 @@
+-- The row `cut_between_words`: an append with two parity bytes, cut after its words. Computed with
+-- `TwoParityBytes`.
+use Rattle.std.specs.Prelude.{Some}
+use Rattle.std.proofs.Common.{ℕ, List, refl, ap, ap₂, ◌∙◌}
+use Rattle.zone_spec.specs.Reading.{ZoneReading, zone_reading}
+use Rattle.zone_spec.specs.Verdicts.{verdict_of}
+use Rattle.zone_spec.specs.Told.{Append}
+use Rattle.zone_spec.specs.Calls.{image_after}
+use Rattle.machine_spec.specs.Report.{report_cut}
+use Rattle.zone_examples.specs.Zones.{console, console_of_two}
+use Rattle.zone_examples.specs.Scenes.{abc, def}
+use Rattle.zone_examples.specs.Damage.{cut_zone}
+use Rattle.zone_examples.specs.Shown.{Shown, shown_by}
+use Rattle.zone_examples.proofs.Unfoldings.{computing}
+use Rattle.zone_examples.proofs.TwoParityBytes.{three-is, cut_at-is, between_words-reads}
+use Rattle.zone_examples.proofs.damage.cut_between_words.Goals as goal
+
+-- what is shown of the reading, before being the image before the call
+shown_of : List ℕ → ZoneReading → Shown
+shown_of before r = shown_by r (record {
+  name = console;
+  verdict = verdict_of (Some abc) r.log;
+  cut = report_cut console_of_two r (cut_zone console_of_two before abc (Append def) 2).cut;
+})
+
+pub returns : goal.returns
+unfolding computing shown_of
+returns c =
+    let image = ap (λ before. image_after console_of_two (Append def) before 2) three-is ∙ cut_at-is 2 in
+    let reads = ap (zone_reading console_of_two) image ∙ between_words-reads in
+    (ap₂ shown_of three-is reads ∙ refl, ap (λ r. r.log) reads)

@@ -1,0 +1,8 @@
+-- The row `layout_of_mebibyte`: one mebibyte. The checker computes it.
+use Rattle.std.proofs.Common.{refl}
+use Rattle.zone_examples.proofs.Unfoldings.{computing_all}
+use Rattle.zone_examples.proofs.layouts.layout_of_mebibyte.Goals as goal
+
+pub returns : goal.returns
+unfolding computing_all
+returns c = refl

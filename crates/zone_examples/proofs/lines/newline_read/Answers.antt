@@ -1,0 +1,8 @@
+-- The row `newline_read`: what ends a time line, and what is none. The checker computes it.
+use Rattle.std.proofs.Common.{refl}
+use Rattle.zone_examples.proofs.Unfoldings.{computing_all}
+use Rattle.zone_examples.proofs.lines.newline_read.Goals as goal
+
+pub returns : goal.returns
+unfolding computing_all
+returns c = (refl, refl, refl, refl, refl, refl, refl)

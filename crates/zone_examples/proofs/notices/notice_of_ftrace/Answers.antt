@@ -1,0 +1,8 @@
+-- The row `notice_of_ftrace`: the notice of an ftrace record. The checker computes it.
+use Rattle.std.proofs.Common.{refl}
+use Rattle.zone_examples.proofs.Unfoldings.{computing_all}
+use Rattle.zone_examples.proofs.notices.notice_of_ftrace.Goals as goal
+
+pub returns : goal.returns
+unfolding computing_all
+returns c = (refl, refl)
