@@ -1,0 +1,4 @@
+mod FirstSize
+mod GivenSizes
+mod ReadBack
+mod Zeros
