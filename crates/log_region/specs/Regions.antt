@@ -1,5 +1,6 @@
 -- A region whose console zone holds a text log, so that a log is reported as a region is
-use Rattle.std.specs.Prelude.{◌≡◌, ℕ, ◌+◌, ◌-◌, nat_lt, List, [], ◌∷◌, ◌++◌, length, find, replicate, unwrap_or, Ok}
+use Rattle.std.specs.Prelude.{codes, ◌≡◌, ℕ, ◌+◌, ◌-◌, nat_lt, List, [], ◌∷◌, ◌++◌, length, find, replicate, unwrap_or}
+use Rattle.std.specs.Prelude.{Ok}
 use Rattle.std.specs.Int.{w32, to_le_bytes}
 use Rattle.zone_spec.specs.declared.Kind.TheVariants.{Console}
 use Rattle.zone_spec.specs.declared.Zone.{Zone}
@@ -67,3 +68,8 @@ pub record IsReadBack (log : List ℕ) : Type 0 where
 
 abbrev pub LogsAreReadBack : Type 0
 LogsAreReadBack = (log : List ℕ) → IsReadBack log
+
+-- a row, typed by hand: three bytes in the least region
+abbrev pub ThreeBytesRow : Type 0
+ThreeBytesRow = region_of (codes "abc")
+    ≡ 68 ∷ 66 ∷ 71 ∷ 67 ∷ 3 ∷ 0 ∷ 0 ∷ 0 ∷ 3 ∷ 0 ∷ 0 ∷ 0 ∷ 97 ∷ 98 ∷ 99 ∷ [] ++ replicate 4081 0
