@@ -5,7 +5,7 @@ use Rattle.psz_spec.specs.Layouts.{zones_from, zones_of, size_fault}
 use Rattle.psz_spec.specs.Headers.{word, dump_header}
 use Rattle.psz_spec.specs.States.{state_of}
 use Rattle.psz_spec.specs.Records.{total_line, listed_in}
-use Rattle.psz_spec.specs.Cursor.{cursor_of}
+use Rattle.psz_spec.specs.Cursor.{with_bytes, cursor_of}
 use Rattle.psz_examples.specs.Layouts.{DumpsAloneRow, AllKindsRow, OddPlaceRow, RestUnusedRow, NoRoomRow, NoDumpZoneRow}
 use Rattle.psz_examples.specs.Layouts.{UnevenRow, MoreThanCpusRow, LeftOverRow, MostRow}
 use Rattle.psz_examples.specs.Headers.{wide_front, x86_front, WideHeaderRow, X86HeaderRow, ErasedRow, UnwrittenRow}
@@ -94,7 +94,7 @@ unfolding digits word dump_header state_of total_line listed_in storage storage_
 listing = refl
 
 pub next : NextRow
-unfolding word dump_header state_of cursor_of storage storage_zones
+unfolding word dump_header state_of with_bytes cursor_of storage storage_zones
 next = refl
 
 pub total : TotalRow
@@ -166,13 +166,13 @@ unfolding digits word dump_header state_of total_line listed_in all_kinds_storag
 all_listed = refl
 
 pub erased_counts : ErasedCountsRow
-unfolding word dump_header state_of cursor_of storage storage_zones
+unfolding word dump_header state_of with_bytes cursor_of storage storage_zones
 erased_counts = refl
 
 pub negative_time : NegativeTimeRow
-unfolding word dump_header state_of cursor_of storage storage_zones
+unfolding word dump_header state_of with_bytes cursor_of storage storage_zones
 negative_time = refl
 
 pub panic_count : PanicCountRow
-unfolding word dump_header state_of cursor_of storage storage_zones
+unfolding word dump_header state_of with_bytes cursor_of storage storage_zones
 panic_count = refl

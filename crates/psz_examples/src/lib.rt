@@ -11,6 +11,12 @@ ghost use Rattle.psz_examples.specs.Rings.{WrappedRow, NotYetRow, FullRow, Beyon
 ghost use Rattle.psz_examples.specs.Rings.{ConsoleRow, FtraceRow, OtherKindRow};
 ghost use Rattle.psz_examples.specs.Listings.{ListingRow, TotalRow, NegativeRow, UnknownRow, NameRow, NextRow};
 ghost use Rattle.psz_examples.specs.Listings.{AllListedRow, ErasedCountsRow, NegativeTimeRow, PanicCountRow};
+ghost use Rattle.psz_examples.specs.Failures.{ShortDumpFaultRow, EmptyPackedRow, PackedRow, StartBeyondRow};
+ghost use Rattle.psz_examples.specs.Failures.{PassedOverRow, OthersListedRow, PartsRow, PackedNameRow, RingNameRow};
+ghost use Rattle.psz_examples.specs.Marks.{NoDumpRow as NoDumpMarkRow};
+ghost use Rattle.psz_examples.specs.Marks.{MarksRow, TooLongRow, JustFitsRow, StepRow, AllShownRow, OneDumpRow};
+ghost use Rattle.psz_examples.specs.Marks.{OneSmallRow, OneLongRow, FirstMissingRow, WideMachineRow, X86MachineRow};
+ghost use Rattle.psz_examples.specs.Marks.{NoMachineRow, KibRow, FiveKibRow, TenKibRow, OddKibRow, NoKibRow};
 
 /// Dumps alone; all four kinds; ftrace that does not divide by the processors; what is left over; and sizes that no
 /// kernel takes.
@@ -67,4 +73,39 @@ pub fn listings()
     ensures erased_counts { ErasedCountsRow }
     ensures negative_time { NegativeTimeRow }
     ensures panic_count { PanicCountRow }
+{}
+
+/// Zones at which the kernel fails, what is listed beside them, and where the logs of records stand.
+pub fn failures()
+    ensures short_dump { ShortDumpFaultRow }
+    ensures empty_packed { EmptyPackedRow }
+    ensures packed { PackedRow }
+    ensures start_beyond { StartBeyondRow }
+    ensures passed_over { PassedOverRow }
+    ensures others_listed { OthersListedRow }
+    ensures parts { PartsRow }
+    ensures packed_name { PackedNameRow }
+    ensures ring_name { RingNameRow }
+{}
+
+/// The sizes and the machine that bytes show, and sizes in KiB.
+pub fn marks()
+    ensures marks { MarksRow }
+    ensures too_long { TooLongRow }
+    ensures just_fits { JustFitsRow }
+    ensures step { StepRow }
+    ensures all_shown { AllShownRow }
+    ensures one_dump { OneDumpRow }
+    ensures one_small { OneSmallRow }
+    ensures one_long { OneLongRow }
+    ensures first_missing { FirstMissingRow }
+    ensures no_dump { NoDumpMarkRow }
+    ensures wide_machine { WideMachineRow }
+    ensures x86_machine { X86MachineRow }
+    ensures no_machine { NoMachineRow }
+    ensures kib { KibRow }
+    ensures five_kib { FiveKibRow }
+    ensures ten_kib { TenKibRow }
+    ensures odd_kib { OddKibRow }
+    ensures no_kib { NoKibRow }
 {}

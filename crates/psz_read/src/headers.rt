@@ -1,20 +1,31 @@
-// The words of headers.
-ghost use Rattle.std.specs.Prelude.{◌≡◌, ◌+◌, ◌≤◌, length};
+// The words of headers. What is not there reads as 0.
+ghost use Rattle.std.specs.Prelude.{◌≡◌, ◌<◌, slice_index, drop};
 ghost use Rattle.psz_spec.specs.Headers.{word as word_at, wide as wide_at, words_of as words_at, header_len};
 ghost use Rattle.psz_spec.specs.Headers.{dump_header as header_of};
 
 use psz_spec::{DumpHeader, Machine, Words};
 
-#[tactic(auto, unfolding(psz_spec::specs::Headers::word))]
-fn word(bytes: &[u8], at: usize) -> u32
-    requires { at + 4 ≤ length bytes.now }
-    ensures { result ≡ word_at bytes.now at }
+fn byte(bytes: &[u8], at: usize) -> u8
+    ensures { result ≡ slice_index bytes.now at }
 {
-    u32::from_le_bytes([bytes[at], bytes[at + 1], bytes[at + 2], bytes[at + 3]])
+    if at < bytes.len() { bytes[at] } else { 0 }
 }
 
-fn wide(bytes: &[u8], at: usize) -> u64
-    requires { at + 8 ≤ length bytes.now }
+#[tactic(auto, unfolding(psz_spec::specs::Headers::word))]
+pub(crate) fn word(bytes: &[u8], at: u8) -> u32
+    ensures { result ≡ word_at bytes.now at }
+{
+    let at = usize::from(at);
+    u32::from_le_bytes([
+        byte(bytes, at),
+        byte(bytes, at + 1),
+        byte(bytes, at + 2),
+        byte(bytes, at + 3),
+    ])
+}
+
+fn wide(bytes: &[u8], at: u8) -> u64
+    requires { at < 200 }
     ensures { result ≡ wide_at bytes.now at }
 {
     4_294_967_296 * u64::from(word(bytes, at + 4)) + u64::from(word(bytes, at))
@@ -22,7 +33,6 @@ fn wide(bytes: &[u8], at: usize) -> u64
 
 /// The words of a zone's header, which are its first 12 bytes.
 pub fn words_of(bytes: &[u8]) -> Words
-    requires { 12 ≤ length bytes.now }
     ensures { result ≡ words_at bytes.now }
 {
     Words {
@@ -30,6 +40,13 @@ pub fn words_of(bytes: &[u8]) -> Words
         len: word(bytes, 4),
         start: word(bytes, 8),
     }
+}
+
+/// What follows a zone's header.
+pub fn data_of(bytes: &[u8]) -> &[u8]
+    ensures { result.now ≡ drop 12 bytes.now }
+{
+    if bytes.len() < 12 { &[] } else { &bytes[12..] }
 }
 
 /// How many bytes the header of a dump has.
@@ -45,7 +62,6 @@ pub fn header_len(machine: Machine) -> u32
 /// The header of a dump in the bytes behind its zone's header, as this machine lays it out.
 #[tactic(auto, unfolding(psz_spec::specs::Headers::dump_header))]
 pub fn dump_header(machine: Machine, kept: &[u8]) -> DumpHeader
-    requires { 40 ≤ length kept.now }
     ensures { result ≡ header_of machine kept.now }
 {
     match machine {
@@ -53,7 +69,7 @@ pub fn dump_header(machine: Machine, kept: &[u8]) -> DumpHeader
             magic: word(kept, 0),
             secs: wide(kept, 8),
             nanos: word(kept, 16),
-            packed: kept[24] != 0,
+            packed: byte(kept, 24) != 0,
             count: word(kept, 28),
             reason: word(kept, 32),
         },
@@ -61,7 +77,7 @@ pub fn dump_header(machine: Machine, kept: &[u8]) -> DumpHeader
             magic: word(kept, 0),
             secs: wide(kept, 4),
             nanos: word(kept, 12),
-            packed: kept[16] != 0,
+            packed: byte(kept, 16) != 0,
             count: word(kept, 20),
             reason: word(kept, 24),
         },

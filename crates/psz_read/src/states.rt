@@ -1,15 +1,16 @@
-// What a boot takes a zone for.
-ghost use Rattle.std.specs.Prelude.{◌≡◌, ◌≤◌, length};
-ghost use Rattle.psz_spec.specs.declared.Kind.TheVariants.{Dump};
+// What a boot takes a zone for, and where the kernel fails at it.
+ghost use Rattle.std.specs.Prelude.{◌≡◌};
 ghost use Rattle.psz_spec.specs.Headers.{sig_of, cap_of};
 ghost use Rattle.psz_spec.specs.States.{dump_state as dump_state_of, ring_state as ring_state_of};
 ghost use Rattle.psz_spec.specs.States.{state_of as zone_state};
+ghost use Rattle.psz_spec.specs.Failures.{found_fault as found_fault_of, broken_fault as broken_fault_of};
+ghost use Rattle.psz_spec.specs.Failures.{kernel_fault as fault_of};
 
-use crate::headers::{dump_header, header_len, words_of};
-use psz_spec::{Kind, Machine, State, Words, Zone};
+use crate::headers::{data_of, dump_header, header_len, words_of};
+use psz_spec::{KernelFault, Kind, Machine, State, Words, Zone};
 
 /// What a dump's header begins with.
-const MAGIC: u32 = 0x4dfc_3ae5;
+pub(crate) const MAGIC: u32 = 0x4dfc_3ae5;
 
 fn sig_of(kind: Kind) -> u32
     ensures { result ≡ sig_of kind }
@@ -23,15 +24,12 @@ fn sig_of(kind: Kind) -> u32
 }
 
 fn cap_of(zone: &Zone) -> u32
-    requires { 12 ≤ zone.now.size }
     ensures { result ≡ cap_of zone.now }
 {
-    zone.size - 12
+    zone.size.saturating_sub(12)
 }
 
 fn dump_state(machine: Machine, zone: &Zone, words: Words, kept: &[u8]) -> State
-    requires room { 12 ≤ zone.now.size }
-    requires header { 40 ≤ length kept.now }
     ensures { result ≡ dump_state_of machine zone.now words kept.now }
 {
     if words.len > cap_of(zone) {
@@ -50,7 +48,6 @@ fn dump_state(machine: Machine, zone: &Zone, words: Words, kept: &[u8]) -> State
 }
 
 fn ring_state(zone: &Zone, words: Words) -> State
-    requires { 12 ≤ zone.now.size }
     ensures { result ≡ ring_state_of zone.now words }
 {
     if words.len > cap_of(zone) || words.start > cap_of(zone) {
@@ -65,12 +62,9 @@ fn ring_state(zone: &Zone, words: Words) -> State
     State::Found
 }
 
-/// What a boot takes a zone for, by its bytes.
+/// What a boot takes a zone for, by its bytes. The first 52 are enough.
 #[tactic(auto, unfolding(psz_spec::specs::States::state_of))]
 pub fn state_of(machine: Machine, zone: &Zone, bytes: &[u8]) -> State
-    requires room { 12 ≤ zone.now.size }
-    requires header { 12 ≤ length bytes.now }
-    requires dump { zone.now.kind ≡ Dump → 52 ≤ length bytes.now }
     ensures { result ≡ zone_state machine zone.now bytes.now }
 {
     let words = words_of(bytes);
@@ -78,7 +72,44 @@ pub fn state_of(machine: Machine, zone: &Zone, bytes: &[u8]) -> State
         return State::Unsigned;
     }
     match zone.kind {
-        Kind::Dump => dump_state(machine, zone, words, &bytes[12..]),
+        Kind::Dump => dump_state(machine, zone, words, data_of(bytes)),
         Kind::Pmsg | Kind::Console | Kind::Ftrace => ring_state(zone, words),
+    }
+}
+
+fn broken_fault(kind: Kind) -> KernelFault
+    ensures { result ≡ broken_fault_of kind }
+{
+    match kind {
+        Kind::Dump => KernelFault::ShortDump,
+        Kind::Pmsg | Kind::Console | Kind::Ftrace => KernelFault::StartBeyond,
+    }
+}
+
+fn found_fault(machine: Machine, kind: Kind, bytes: &[u8]) -> Option<KernelFault>
+    ensures { result ≡ found_fault_of machine kind bytes.now }
+{
+    match kind {
+        Kind::Dump => {
+            let packed = dump_header(machine, data_of(bytes)).packed;
+            if packed && words_of(bytes).len == header_len(machine) {
+                Some(KernelFault::EmptyPacked)
+            } else {
+                None
+            }
+        }
+        Kind::Pmsg | Kind::Console | Kind::Ftrace => None,
+    }
+}
+
+/// How the kernel fails at a zone, by its first 52 bytes.
+#[tactic(auto, unfolding(psz_spec::specs::Failures::kernel_fault))]
+pub fn kernel_fault(machine: Machine, zone: &Zone, bytes: &[u8]) -> Option<KernelFault>
+    ensures { result ≡ fault_of machine zone.now bytes.now }
+{
+    match state_of(machine, zone, bytes) {
+        State::Broken => Some(broken_fault(zone.kind)),
+        State::Found => found_fault(machine, zone.kind, bytes),
+        State::Unsigned | State::Overtop | State::NoDump | State::Erased => None,
     }
 }

@@ -6,19 +6,12 @@ use Rattle.psz_spec.specs.declared.Kind.TheVariants.{Dump}
 use Rattle.psz_spec.specs.declared.Zone.{Zone}
 use Rattle.psz_spec.specs.declared.Machine.{Machine}
 use Rattle.psz_spec.specs.declared.DumpHeader.{DumpHeader}
+use Rattle.psz_spec.specs.declared.Cursor.{Cursor}
 use Rattle.psz_spec.specs.declared.State.{State}
 use Rattle.psz_spec.specs.declared.State.TheVariants.{Erased, Broken, Found}
 use Rattle.psz_spec.specs.Headers.{dump_header}
 use Rattle.psz_spec.specs.States.{zone_bytes, data_of, state_of}
 use Rattle.psz_spec.specs.Records.{is_of}
-
--- how far the dump zones were looked through: the latest time so far, the zone behind the one that has it, and the
--- highest counts of oopses and panics
-pub record Cursor : Type 0 where
-  pub latest : ℕ
-  pub next : ℕ
-  pub oopses : ℕ
-  pub panics : ℕ
 
 -- whether a zone has a dump's header; an erased one has it still
 abbrev pub has_header : State → Bool
@@ -42,10 +35,13 @@ with_header index h c = record {
   panics = if h.reason == 1 then higher c.panics h.count else c.panics;
 }
 
+-- one zone more, by its bytes; the first 52 are enough
+unfoldable pub with_bytes : Machine → Zone → List ℕ → Cursor → Cursor
+with_bytes machine z bytes c =
+    if has_header (state_of machine z bytes) then with_header z.index (dump_header machine (data_of bytes)) c else c
+
 abbrev pub with_zone : Machine → List ℕ → Cursor → Zone → Cursor
-with_zone machine image c z =
-    if has_header (state_of machine z (zone_bytes z image))
-    then with_header z.index (dump_header machine (data_of (zone_bytes z image))) c else c
+with_zone machine image c z = with_bytes machine z (zone_bytes z image) c
 
 abbrev pub first_cursor : Cursor
 first_cursor = record { latest = 0; next = 0; oopses = 0; panics = 0 }
