@@ -1,0 +1,82 @@
+-- The rows on marks, machines and parameters compute
+use Rattle.std.proofs.Common.{refl}
+use Rattle.psz_spec.specs.Headers.{word, dump_header}
+use Rattle.psz_spec.specs.Marks.{mark_at, marks_from, gcd_in, gcd, step_after, step_of, rings_of, shown_sizes}
+use Rattle.psz_spec.specs.Marks.{machine_shown}
+use Rattle.psz_spec.specs.Parameters.{kib_size}
+use Rattle.psz_examples.specs.Headers.{wide_front, x86_front}
+use Rattle.psz_examples.specs.Marks.{marked_storage, MarksRow, TooLongRow, JustFitsRow, StepRow, AllShownRow}
+use Rattle.psz_examples.specs.Marks.{OneDumpRow, OneSmallRow, OneLongRow, FirstMissingRow, NoDumpRow, WideMachineRow}
+use Rattle.psz_examples.specs.Marks.{X86MachineRow, NoMachineRow, KibRow, FiveKibRow, TenKibRow, OddKibRow, NoKibRow}
+
+pub marks : MarksRow
+unfolding word mark_at marks_from marked_storage
+marks = refl
+
+pub too_long : TooLongRow
+unfolding word mark_at
+too_long = refl
+
+pub just_fits : JustFitsRow
+unfolding word mark_at
+just_fits = refl
+
+pub step : StepRow
+unfolding gcd_in gcd step_after step_of
+step = refl
+
+pub all_shown : AllShownRow
+unfolding gcd_in gcd step_after step_of rings_of shown_sizes
+all_shown = refl
+
+pub one_dump : OneDumpRow
+unfolding gcd_in gcd step_after step_of rings_of shown_sizes
+one_dump = refl
+
+pub one_small : OneSmallRow
+unfolding gcd_in gcd step_after step_of rings_of shown_sizes
+one_small = refl
+
+pub one_long : OneLongRow
+unfolding gcd_in gcd step_after step_of rings_of shown_sizes
+one_long = refl
+
+pub first_missing : FirstMissingRow
+unfolding gcd_in gcd step_after step_of rings_of shown_sizes
+first_missing = refl
+
+pub no_dump : NoDumpRow
+unfolding gcd_in gcd step_after step_of rings_of shown_sizes
+no_dump = refl
+
+pub wide_machine : WideMachineRow
+unfolding word dump_header machine_shown wide_front
+wide_machine = refl
+
+pub x86_machine : X86MachineRow
+unfolding word dump_header machine_shown x86_front
+x86_machine = refl
+
+pub no_machine : NoMachineRow
+unfolding word dump_header machine_shown
+no_machine = refl
+
+pub kib : KibRow
+unfolding kib_size
+kib = refl
+
+pub five_kib : FiveKibRow
+unfolding kib_size
+five_kib = refl
+
+pub ten_kib : TenKibRow
+unfolding kib_size
+ten_kib = refl
+
+pub odd_kib : OddKibRow
+unfolding kib_size
+odd_kib = refl
+
+pub no_kib : NoKibRow
+unfolding kib_size
+no_kib = refl

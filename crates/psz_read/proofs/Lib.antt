@@ -1,0 +1,7 @@
+mod RunZones
+mod RunRoom
+mod Rests
+mod Divisors
+mod Fronts
+mod PartRecords
+mod CursorSteps

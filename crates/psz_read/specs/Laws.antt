@@ -1,0 +1,53 @@
+-- What a reader may rest on: a zone's front decides on it, no zone hides another, and the parts make the records
+use Rattle.std.specs.Prelude.{◌≡◌, ℕ, ◌≤◌, List, ◌++◌, take}
+use Rattle.std.specs.Int.{IsGcd}
+use Rattle.psz_spec.specs.declared.Kind.{Kind}
+use Rattle.psz_spec.specs.declared.Kind.TheVariants.{Pmsg, Console, Ftrace, Dump}
+use Rattle.psz_spec.specs.declared.Zone.{Zone}
+use Rattle.psz_spec.specs.declared.Machine.{Machine}
+use Rattle.psz_spec.specs.declared.Cursor.{Cursor}
+use Rattle.psz_spec.specs.States.{state_of}
+use Rattle.psz_spec.specs.Failures.{kernel_fault}
+use Rattle.psz_spec.specs.Records.{records_of, traces_of, listed_in}
+use Rattle.psz_spec.specs.Parts.{part_of, parts_of, of_kind, records_from}
+use Rattle.psz_spec.specs.Cursor.{with_bytes}
+use Rattle.psz_spec.specs.Marks.{gcd}
+
+-- of a zone's bytes 52 tell all that its state, its kernel's fault, its part and the cursor depend on
+abbrev pub StateOfFront : Type 0
+StateOfFront = (machine : Machine) (z : Zone) (bytes : List ℕ) (n : ℕ) → 52 ≤ n
+    → state_of machine z (take n bytes) ≡ state_of machine z bytes
+
+abbrev pub FaultOfFront : Type 0
+FaultOfFront = (machine : Machine) (z : Zone) (bytes : List ℕ) (n : ℕ) → 52 ≤ n
+    → kernel_fault machine z (take n bytes) ≡ kernel_fault machine z bytes
+
+abbrev pub PartOfFront : Type 0
+PartOfFront = (machine : Machine) (z : Zone) (bytes : List ℕ) (n : ℕ) → 52 ≤ n
+    → part_of machine z (take n bytes) ≡ part_of machine z bytes
+
+abbrev pub CursorOfFront : Type 0
+CursorOfFront = (machine : Machine) (z : Zone) (bytes : List ℕ) (n : ℕ) (c : Cursor) → 52 ≤ n
+    → with_bytes machine z (take n bytes) c ≡ with_bytes machine z bytes c
+
+-- what zones list stands beside what others list, whatever state these have
+abbrev pub EachByItself : Type 0
+EachByItself = (machine : Machine) (image : List ℕ) (kind : Kind) (xs ys : List Zone)
+    → records_of machine image kind (xs ++ ys)
+    ≡ records_of machine image kind xs ++ records_of machine image kind ys
+
+abbrev pub TracesByThemselves : Type 0
+TracesByThemselves = (machine : Machine) (image : List ℕ) (xs ys : List Zone)
+    → traces_of machine image (xs ++ ys) ≡ traces_of machine image xs ++ traces_of machine image ys
+
+-- the records are those of the parts
+abbrev pub PartsAreRecords : Type 0
+PartsAreRecords = (machine : Machine) (zones : List Zone) (image : List ℕ)
+    → listed_in machine zones image
+    ≡ records_from image (parts_of machine (of_kind Dump zones) image)
+    (parts_of machine (of_kind Ftrace zones) image) (parts_of machine (of_kind Pmsg zones) image)
+    (parts_of machine (of_kind Console zones) image)
+
+-- Euclid's algorithm finds the greatest common divisor
+abbrev pub GcdIsGreatest : Type 0
+GcdIsGreatest = (a b : ℕ) → IsGcd a b (gcd a b)
