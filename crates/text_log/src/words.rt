@@ -12,8 +12,8 @@ fn byte_at(text: &[u8], at: usize) -> u8
     if at < text.len() { text[at] } else { 0 }
 }
 
-// What stands from a place on; nothing past the end.
-fn tail(text: &[u8], at: usize) -> &[u8]
+/// What stands from a place on; nothing past the end.
+pub fn tail(text: &[u8], at: usize) -> &[u8]
     ensures { result.now ≡ drop at text.now }
 {
     if at < text.len() { &text[at..] } else { &[] }
@@ -35,6 +35,7 @@ fn is_in(class: Class, b: u8) -> bool
     ensures { result ≡ is_in class b }
 {
     match class {
+        Class::Line => b != b'\n',
         Class::Blank => is_blank(b),
         Class::Word => !is_blank(b),
         Class::Bracketed => b != b']',
@@ -43,7 +44,8 @@ fn is_in(class: Class, b: u8) -> bool
     }
 }
 
-fn run(class: Class, text: &[u8]) -> usize
+/// How many bytes at the front are of a class.
+pub fn run(class: Class, text: &[u8]) -> usize
     ensures run { result ≡ run class text.now }
     ensures within { result ≤ length text.now }
 {

@@ -4,7 +4,7 @@ use Rattle.std.specs.Prelude.{ℕ, zero, suc, ◌+◌, ◌==◌, Bool, not, ◌&
 use Rattle.std.specs.Prelude.{List, length, drop, slice_index, Option, Some, None}
 use Rattle.std.specs.List.{starts_with, prefix_len}
 use Rattle.text_log_spec.specs.declared.Class.{Class}
-use Rattle.text_log_spec.specs.declared.Class.TheVariants.{Blank, Word, Bracketed, Angled, Parameter}
+use Rattle.text_log_spec.specs.declared.Class.TheVariants.{Line, Blank, Word, Bracketed, Angled, Parameter}
 use Rattle.text_log_spec.specs.declared.Head.{Head}
 use Rattle.text_log_spec.specs.declared.Head.TheVariants.{Booting, Version}
 use Rattle.text_log_spec.specs.declared.TheConstants.{BOOTING, VERSION, KERNEL}
@@ -13,6 +13,7 @@ abbrev pub is_blank : ℕ → Bool
 is_blank b = b == 32 || b == 9 || b == 13
 
 abbrev pub is_in : Class → ℕ → Bool
+is_in Line b = not (b == 10)
 is_in Blank b = is_blank b
 is_in Word b = not (is_blank b)
 is_in Bracketed b = not (b == 93)

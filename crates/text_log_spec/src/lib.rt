@@ -11,9 +11,11 @@ pub enum Head {
     Version,
 }
 
-/// Bytes that belong together before what a line says.
+/// Bytes that belong together in a line.
 #[derive(Clone, Copy, Debug, PartialEq, Eq)]
 pub enum Class {
+    /// All but a newline.
+    Line,
     /// A space, a tab or a carriage return.
     Blank,
     /// All but these.
