@@ -1,7 +1,8 @@
 -- What comes behind a member goes on to what the file is
 use Rattle.std.proofs.Common.{◌≡◌, ℕ, ◌+◌, ◌-◌, ◌≤◌, ◌<◌, ◌⊎◌, inl, inr, true, false, cond, ◌==◌, List, [], ◌∷◌, ◌++◌, length}
-use Rattle.std.proofs.Common.{drop, Result, Ok, Err, Vec, Option, Some, None, refl, sym, ap, subst, arith, ◌∙◌}
+use Rattle.std.proofs.Common.{drop, Result, Ok, Err, Option, Some, None, refl, sym, ap, subst, arith, ◌∙◌}
 use Rattle.std.proofs.lemmas.Bool.{eq-eqb, ne_eqb}
+use Rattle.std.specs.Global.{Vec}
 use Rattle.std.proofs.lemmas.List.{drop-drop, length-drop}
 use Rattle.gzip_spec.specs.declared.GzipFault.{GzipFault}
 use Rattle.gzip_spec.specs.declared.GzipFault.TheVariants.{TrailingBytes, NotGzip}
@@ -108,3 +109,21 @@ all_more most bytes text at taken leads here goes on next outcome later ends =
     (subst (λ (n : Next). Ends most n outcome) (sym (goes_on (drop taken (drop at bytes)) text some))
     (later_on most (drop taken (drop at bytes)) text next outcome
     (subst (λ (b : List ℕ). Leads most (header_end TrailingBytes b) b text next) same later) ends))
+
+-- the same of bytes that are equal
+pub at_rest : (most : ℕ) (other : GzipFault) (rest bytes text : List ℕ) (next : Next) → rest ≡ bytes
+    → Leads most (header_end other rest) rest text next → Leads most (header_end other bytes) bytes text next
+at_rest most other rest bytes text next e leads =
+    subst (λ (b : List ℕ). Leads most (header_end other b) b text next) e leads
+
+pub stopped_at : (most : ℕ) (rest text : List ℕ) (leads : Next → Type 0) (result : Result ℕ Stop) (stop : Stop)
+    → result ≡ Err stop → Goes most rest text leads result → Goes most rest text leads (Err stop)
+stopped_at most rest text leads result stop is goes =
+    subst (λ (r : Result ℕ Stop). Goes most rest text leads r) is goes
+
+pub onward_at : (most : ℕ) (other : GzipFault) (rest bytes before text : List ℕ) (result : Result ℕ Stop) (taken : ℕ)
+    → rest ≡ bytes → result ≡ Ok taken → Goes most rest text (Leads most (header_end other rest) rest before) result
+    → Onward most bytes text (Leads most (header_end other bytes) bytes before) taken
+onward_at most other rest bytes before text result taken e is goes =
+    subst (λ (b : List ℕ). Onward most b text (Leads most (header_end other b) b before) taken) e
+    (subst (λ (r : Result ℕ Stop). Goes most rest text (Leads most (header_end other rest) rest before) r) is goes)

@@ -1,6 +1,7 @@
 -- What the functions of the reader answer
-use Rattle.std.specs.Prelude.{◌≡◌, ℕ, ◌<◌, ◌≤◌, ◌⊎◌, ◌++◌, List, [], length, drop, Vec, Result, Ok, Err}
+use Rattle.std.specs.Prelude.{◌≡◌, ℕ, ◌<◌, ◌≤◌, ◌⊎◌, ◌++◌, List, [], length, drop, Result, Ok, Err}
 use Rattle.std.specs.Prelude.{Option, Some, None}
+use Rattle.std.specs.Global.{Vec}
 use Rattle.gzip_spec.specs.declared.GzipFault.{GzipFault}
 use Rattle.gzip_spec.specs.Headers.{header_end}
 use Rattle.gzip_spec.specs.Files.{Outcome, Text, Broken, TooLong, Next, Member, End, behind, Members, Gives}

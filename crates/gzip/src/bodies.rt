@@ -4,7 +4,7 @@ ghost use Rattle.gzip_spec.specs.Headers.{header_end};
 ghost use Rattle.gzip_spec.specs.Files.{HasBody, Leads};
 ghost use Rattle.gzip.specs.Goes.{Goes, IsJoined, stopped};
 
-use crate::headers::{header_end, member_end};
+use crate::headers::{header_end, member_end, tail};
 use gzip_spec::GzipFault;
 use inflate::{InflateError, inflate};
 use std::alloc::{AllocError, Global};
@@ -53,7 +53,8 @@ fn body(alloc: Global, bytes: &[u8], header: usize, most: usize, text: &mut Vec<
     requires short { length text.old.items ≤ most }
     ensures { Goes most bytes.now text.new.items (HasBody most bytes.now header text.old.items) result }
 {
-    match inflate(alloc, &bytes[header..], most - text.len()) {
+    let rest = tail(bytes, header);
+    match inflate(alloc, rest, most - text.len()) {
         Ok(found) => {
             let end = member_end(bytes, header, found.taken, &found.text);
             joined(text, found.text, stopped(end))

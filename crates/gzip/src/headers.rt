@@ -8,6 +8,14 @@ ghost use Rattle.gzip_spec.specs.Headers.{header_end, member_end};
 use crc32::crc32;
 use gzip_spec::GzipFault;
 
+/// What stands from a place on.
+pub fn tail(bytes: &[u8], at: usize) -> &[u8]
+    requires { at ≤ length bytes.now }
+    ensures { result.now ≡ drop at bytes.now }
+{
+    &bytes[at..]
+}
+
 fn byte_at(bytes: &[u8], at: usize) -> u8
     ensures { result ≡ slice_index bytes.now at }
 {

@@ -10,6 +10,7 @@ mod bodies;
 mod headers;
 
 use bodies::{Stop, member};
+use headers::tail;
 pub use gzip_spec::GzipFault;
 use std::alloc::Global;
 
@@ -29,7 +30,8 @@ fn members(alloc: Global, bytes: &[u8], most: usize, text: &mut Vec<u8>) -> Opti
     let mut at = 0;
     let mut other = GzipFault::NotGzip;
     'members: loop {
-        match member(alloc, &bytes[at..], other, most, text) {
+        let rest = tail(bytes, at);
+        match member(alloc, rest, other, most, text) {
             Ok(taken) => at += taken,
             Err(stop) => return Some(stop),
         }

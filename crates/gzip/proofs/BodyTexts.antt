@@ -3,6 +3,11 @@ use Rattle.std.proofs.Common.{◌≡◌, ℕ, ◌+◌, ◌-◌, ◌<◌, ◌≤�
 use Rattle.std.proofs.Common.{arith, ◌∙◌}
 use Rattle.inflate_spec.specs.Texts.{Inflates, Breaks, Exceeds}
 use Rattle.inflate_spec.specs.declared.Fault.{Fault}
+use Rattle.inflate.specs.declared.Inflated.{Inflated}
+use Rattle.inflate.specs.declared.InflateError.{InflateError}
+use Rattle.inflate.specs.declared.InflateError.TheVariants as errors
+use Rattle.inflate.specs.Goes.{Answers}
+use Rattle.std.specs.Global.{Vec}
 use Rattle.gzip_spec.specs.declared.GzipFault.{GzipFault}
 use Rattle.gzip_spec.specs.declared.GzipFault.TheVariants as faults
 use Rattle.gzip_spec.specs.Headers.{member_end}
@@ -58,3 +63,20 @@ long_goes most bytes header before more text result short is joined =
       there = has_body most bytes header before (Long more) is;
       short = joined_short most before more short fits;
     })
+
+-- what inflate answered of a body that is too long, and of one that breaks
+pub long_at : (bytes at : List ℕ) (most left : ℕ) (result : Result Inflated InflateError) (more : Vec ℕ) → bytes ≡ at
+    → most ≡ left → result ≡ Err (errors.TooLong more) → Answers bytes most result → Exceeds at left more.items
+long_at bytes at most left result more e l is h =
+    subst (λ (b : List ℕ). Exceeds b left more.items) e
+    (subst (λ (m : ℕ). Exceeds bytes m more.items) l
+    (subst (λ (r : Result Inflated InflateError). Answers bytes most r) is h))
+
+pub faulty_at : (bytes at : List ℕ) (most left : ℕ) (result : Result Inflated InflateError) (fault : Fault)
+    (more : Vec ℕ) → bytes ≡ at → most ≡ left → result ≡ Err (errors.Broken fault more) → Answers bytes most result
+    → Breaks at fault more.items × (length more.items ≤ left)
+faulty_at bytes at most left result fault more e l is h =
+    let found = subst (λ (r : Result Inflated InflateError). Answers bytes most r) is h in (
+      subst (λ (b : List ℕ). Breaks b fault more.items) e found.0,
+      subst (λ (m : ℕ). length more.items ≤ m) l found.1,
+    )
