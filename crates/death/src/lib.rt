@@ -5,6 +5,7 @@
 ghost use Rattle.std.specs.Prelude.{◌≡◌, OnOk, IfOk};
 ghost use Rattle.death_spec.specs.Reports.{death_of, trace_of};
 
+mod causes;
 pub mod laws;
 mod lines;
 mod marks;
@@ -23,7 +24,7 @@ pub fn death(text: &[u8]) -> Option<Death>
     ensures { result ≡ death_of text.now }
 {
     let line = telling::telling_line(text)?;
-    Some(match telling::cause_of(text, line) {
+    Some(match causes::cause_of(text, line) {
         Some(cause) => reports::death_at(text, cause, Some(line)),
         None => reports::death_at(text, line, None),
     })

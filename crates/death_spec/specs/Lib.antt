@@ -1,5 +1,6 @@
 pub mod Marks
 pub mod Lines
 pub mod Telling
+pub mod Causes
 pub mod Traces
 pub mod Reports
