@@ -11,3 +11,4 @@ mod FrameRows
 mod CauseRows
 mod Stands
 mod Walks
+mod EndRows

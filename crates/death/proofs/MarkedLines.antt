@@ -23,7 +23,7 @@ or_or None y z = refl
 or_or (Some x) y z = refl
 
 -- a line if it counts, else the one so far
-or_cond : (t : Bool) (line : Line) (last : Option Line) → option_or (cond t (Some line) None) last ≡ cond t (Some line) last
+pub or_cond : (t : Bool) (line : Line) (last : Option Line) → option_or (cond t (Some line) None) last ≡ cond t (Some line) last
 or_cond true line last = refl
 or_cond false line last = refl
 

@@ -6,6 +6,7 @@ ghost use Rattle.std.specs.Prelude.{◌≡◌, OnOk, IfOk};
 ghost use Rattle.death_spec.specs.Reports.{death_of, trace_of};
 
 mod causes;
+mod endings;
 pub mod laws;
 mod lines;
 mod marks;
@@ -13,7 +14,8 @@ mod reports;
 mod telling;
 mod traces;
 
-pub use death_spec::{Class, Death, Line, Mark, Span};
+pub use death_spec::{Class, Death, Ended, Ending, Line, Mark, Span};
+pub use endings::ending;
 pub use lines::{is_a, level, next_line, part};
 use std::alloc::{AllocError, Global};
 

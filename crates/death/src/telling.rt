@@ -63,7 +63,7 @@ struct LastLines {
 }
 
 // The later of two lines, the first of them if it counts.
-fn later(counts: bool, line: Line, found: Option<Line>) -> Option<Line>
+pub fn later(counts: bool, line: Line, found: Option<Line>) -> Option<Line>
     ensures { result ≡ (if counts then Some line else found) }
 {
     if counts { Some(line) } else { found }

@@ -4,3 +4,4 @@ pub mod Telling
 pub mod Causes
 pub mod Traces
 pub mod Reports
+pub mod Endings

@@ -3,10 +3,12 @@
 #![tactic(auto)]
 
 pub mod causes;
+pub mod ends;
 pub mod frames;
 pub mod words;
 
 pub use causes::{CAUSES, FIRST_PROCESS};
+pub use ends::ENDS;
 pub use frames::FRAMES;
 pub use words::WORDS;
 
@@ -165,4 +167,25 @@ pub struct Death {
     pub function: Option<Span>,
     /// Whether the one that is meant mostly ends just before that function.
     pub is_next: bool,
+}
+
+/// How a log ends that tells of no death.
+#[derive(Clone, Copy, Debug, PartialEq, Eq)]
+pub enum Ending {
+    /// The machine was restarted in order.
+    Restarted,
+    /// It was switched off or halted in order.
+    SwitchedOff,
+    /// It was restarted by sysrq.
+    Reset,
+    /// The log breaks off: the machine hung, lost power or was reset from outside.
+    BrokenOff,
+}
+
+/// The end of a log that tells of no death.
+#[derive(Clone, Copy, Debug, PartialEq, Eq)]
+pub struct Ended {
+    pub ending: Ending,
+    /// The last line in which the kernel says something.
+    pub line: Line,
 }

@@ -6,6 +6,8 @@ mod cause_tests;
 #[cfg(test)]
 mod death_tests;
 #[cfg(test)]
+mod ending_tests;
+#[cfg(test)]
 mod form_tests;
 #[cfg(test)]
 mod lines_tests;
