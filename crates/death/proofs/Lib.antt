@@ -7,3 +7,8 @@ mod Levels
 mod Steps
 mod MarkedLines
 mod TraceEntries
+mod FrameRows
+mod CauseRows
+mod Stands
+mod Walks
+mod EndRows

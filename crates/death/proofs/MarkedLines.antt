@@ -1,4 +1,4 @@
--- The last and the first line with a mark, one line after the other
+-- The last and the first line that count, one line after the other
 use Rattle.std.proofs.Common.{◌≡◌, ℕ, Bool, true, false, not, cond, List, [], ◌∷◌, Option, Some, None, refl, sym, ap}
 use Rattle.std.proofs.Common.{◌∙◌}
 use Rattle.std.proofs.lemmas.List.Sums.{take_while-cons}
@@ -6,10 +6,9 @@ use Rattle.std.specs.List.{take_while}
 use Rattle.std.specs.Option.{option_or}
 use Rattle.death_spec.specs.declared.Line.{Line}
 use Rattle.death_spec.specs.declared.Mark.{Mark}
-use Rattle.death_spec.specs.Marks.{is_mark}
-use Rattle.death_spec.specs.Lines.{lines_from, kind, is_a}
+use Rattle.death_spec.specs.Lines.{lines_from, kind}
 use Rattle.death_spec.specs.Telling.{last_of, opens, ends_report, open_behind, last_opening}
-use Rattle.death_spec.specs.Reports.{first_of}
+use Rattle.death_spec.specs.Reports.{first_where}
 
 -- the lines up to the end of a report
 abbrev pub in_report : List ℕ → Bool → List Line → List Line
@@ -19,102 +18,103 @@ pub or_none : {X : Type 0} (x : Option X) → option_or x None ≡ x
 or_none None = refl
 or_none (Some x) = refl
 
-or_or : {X : Type 0} (x y z : Option X) → option_or (option_or x y) z ≡ option_or x (option_or y z)
+pub or_or : {X : Type 0} (x y z : Option X) → option_or (option_or x y) z ≡ option_or x (option_or y z)
 or_or None y z = refl
 or_or (Some x) y z = refl
 
 -- a line if it counts, else the one so far
-or_cond : (t : Bool) (line : Line) (last : Option Line) → option_or (cond t (Some line) None) last ≡ cond t (Some line) last
+pub or_cond : (t : Bool) (line : Line) (last : Option Line) → option_or (cond t (Some line) None) last ≡ cond t (Some line) last
 or_cond true line last = refl
 or_cond false line last = refl
 
--- one line more, which may have the mark
-pub last_more : (text : List ℕ) (mark : Mark) (line : Line) (lines : List Line) (last : Option Line)
-    → option_or (last_of text mark (line ∷ lines)) last
-    ≡ option_or (last_of text mark lines) (cond (is_a text mark line) (Some line) last)
+-- one line more, which may count
+pub last_more : (text : List ℕ) (counts : Option Mark → Bool) (line : Line) (lines : List Line) (last : Option Line)
+    → option_or (last_of text counts (line ∷ lines)) last
+    ≡ option_or (last_of text counts lines) (cond (counts (kind text line)) (Some line) last)
 unfolding last_of
-last_more text mark line lines last =
-    or_or (last_of text mark lines) (cond (is_a text mark line) (Some line) None) last
-    ∙ ap (option_or (last_of text mark lines)) (or_cond (is_a text mark line) line last)
+last_more text counts line lines last =
+    or_or (last_of text counts lines) (cond (counts (kind text line)) (Some line) None) last
+    ∙ ap (option_or (last_of text counts lines)) (or_cond (counts (kind text line)) line last)
 
-pub last_none : (text : List ℕ) (mark : Mark) (last : Option Line) → option_or (last_of text mark []) last ≡ last
+pub last_none : (text : List ℕ) (counts : Option Mark → Bool) (last : Option Line)
+    → option_or (last_of text counts []) last ≡ last
 unfolding last_of
-last_none text mark last = refl
+last_none text counts last = refl
 
 -- the lines of a report: the first one, if it does not end it
-first_step : (text : List ℕ) (mark : Mark) (is_open : Bool) (line : Line) (lines : List Line)
-    → first_of text mark (in_report text is_open (line ∷ lines))
-    ≡ cond (not (ends_report is_open (kind text line))) (first_of text mark (line ∷ in_report text is_open lines)) None
-unfolding first_of
-first_step text mark is_open line lines =
-    ap (first_of text mark) (take_while-cons (λ l. not (ends_report is_open (kind text l))) line lines)
+first_step : (text : List ℕ) (p : Line → Bool) (is_open : Bool) (line : Line) (lines : List Line)
+    → first_where p (in_report text is_open (line ∷ lines))
+    ≡ cond (not (ends_report is_open (kind text line))) (first_where p (line ∷ in_report text is_open lines)) None
+unfolding first_where
+first_step text p is_open line lines =
+    ap (first_where p) (take_while-cons (λ l. not (ends_report is_open (kind text l))) line lines)
     ∙ by (not (ends_report is_open (kind text line)))
   where
-    by : (t : Bool) → first_of text mark (cond t (line ∷ in_report text is_open lines) [])
-        ≡ cond t (first_of text mark (line ∷ in_report text is_open lines)) None
+    by : (t : Bool) → first_where p (cond t (line ∷ in_report text is_open lines) [])
+        ≡ cond t (first_where p (line ∷ in_report text is_open lines)) None
     by true = refl
     by false = refl
 
-first_ended : (text : List ℕ) (mark : Mark) (is_open : Bool) (line : Line) (lines : List Line) → ends_report is_open (kind text line) ≡ true
-    → first_of text mark (in_report text is_open (line ∷ lines)) ≡ None
-first_ended text mark is_open line lines e =
-    first_step text mark is_open line lines
-    ∙ ap (λ t. cond (not t) (first_of text mark (line ∷ in_report text is_open lines)) None) e
+first_ended : (text : List ℕ) (p : Line → Bool) (is_open : Bool) (line : Line) (lines : List Line)
+    → ends_report is_open (kind text line) ≡ true
+    → first_where p (in_report text is_open (line ∷ lines)) ≡ None
+first_ended text p is_open line lines e =
+    first_step text p is_open line lines
+    ∙ ap (λ t. cond (not t) (first_where p (line ∷ in_report text is_open lines)) None) e
 
-first_more : (text : List ℕ) (mark : Mark) (is_open : Bool) (line : Line) (lines : List Line) (found : Option Line)
+first_more : (text : List ℕ) (p : Line → Bool) (is_open : Bool) (line : Line) (lines : List Line) (found : Option Line)
     → ends_report is_open (kind text line) ≡ false
-    → option_or found (first_of text mark (in_report text is_open (line ∷ lines)))
-    ≡ option_or (option_or found (cond (is_a text mark line) (Some line) None)) (first_of text mark (in_report text is_open lines))
-unfolding first_of
-first_more text mark is_open line lines found e =
+    → option_or found (first_where p (in_report text is_open (line ∷ lines)))
+    ≡ option_or (option_or found (cond (p line) (Some line) None)) (first_where p (in_report text is_open lines))
+unfolding first_where
+first_more text p is_open line lines found e =
     ap (option_or found)
-    (first_step text mark is_open line lines
-    ∙ ap (λ t. cond (not t) (first_of text mark (line ∷ in_report text is_open lines)) None) e)
-    ∙ by found (is_a text mark line)
+    (first_step text p is_open line lines
+    ∙ ap (λ t. cond (not t) (first_where p (line ∷ in_report text is_open lines)) None) e)
+    ∙ by found (p line)
   where
     by : (x : Option Line) (t : Bool)
-        → option_or x (cond t (Some line) (first_of text mark (in_report text is_open lines)))
-        ≡ option_or (option_or x (cond t (Some line) None)) (first_of text mark (in_report text is_open lines))
+        → option_or x (cond t (Some line) (first_where p (in_report text is_open lines)))
+        ≡ option_or (option_or x (cond t (Some line) None)) (first_where p (in_report text is_open lines))
     by None true = refl
     by None false = refl
     by (Some y) t = refl
 
 -- the same from the place of the line on, by what was found of the line
-pub head_more : (text : List ℕ) (mark : Mark) (is_open : Bool) (at : ℕ) (line : Line) (found wanted now : Option Line)
+pub head_more : (text : List ℕ) (p : Line → Bool) (is_open : Bool) (at : ℕ) (line : Line) (found wanted now : Option Line)
     (k : Option Mark) (t : Bool)
-    → wanted ≡ option_or found (first_of text mark (in_report text is_open (lines_from text at)))
+    → wanted ≡ option_or found (first_where p (in_report text is_open (lines_from text at)))
     → lines_from text at ≡ line ∷ lines_from text line.next → k ≡ kind text line → ends_report is_open k ≡ false
-    → t ≡ is_mark mark k → now ≡ option_or found (cond t (Some line) None)
-    → wanted ≡ option_or now (first_of text mark (in_report text is_open (lines_from text line.next)))
-head_more text mark is_open at line found wanted now k t so_far here is_kind goes_on is is_now =
-    so_far ∙ ap (λ ls. option_or found (first_of text mark (in_report text is_open ls))) here
-    ∙ first_more text mark is_open line (lines_from text line.next) found
+    → t ≡ p line → now ≡ option_or found (cond t (Some line) None)
+    → wanted ≡ option_or now (first_where p (in_report text is_open (lines_from text line.next)))
+head_more text p is_open at line found wanted now k t so_far here is_kind goes_on is is_now =
+    so_far ∙ ap (λ ls. option_or found (first_where p (in_report text is_open ls))) here
+    ∙ first_more text p is_open line (lines_from text line.next) found
     (sym (ap (ends_report is_open) is_kind) ∙ goes_on)
-    ∙ ap (λ (b : Bool). option_or (option_or found (cond b (Some line) None)) below)
-    (sym (is ∙ ap (is_mark mark) is_kind))
+    ∙ ap (λ (b : Bool). option_or (option_or found (cond b (Some line) None)) below) (sym is)
     ∙ ap (λ x. option_or x below) (sym is_now)
   where
     below : Option Line
-    below = first_of text mark (in_report text is_open (lines_from text line.next))
+    below = first_where p (in_report text is_open (lines_from text line.next))
 
 -- the report ends at the line
-pub head_ended : (text : List ℕ) (mark : Mark) (is_open : Bool) (at : ℕ) (line : Line) (found wanted : Option Line)
+pub head_ended : (text : List ℕ) (p : Line → Bool) (is_open : Bool) (at : ℕ) (line : Line) (found wanted : Option Line)
     (k : Option Mark)
-    → wanted ≡ option_or found (first_of text mark (in_report text is_open (lines_from text at)))
+    → wanted ≡ option_or found (first_where p (in_report text is_open (lines_from text at)))
     → lines_from text at ≡ line ∷ lines_from text line.next → k ≡ kind text line → ends_report is_open k ≡ true
     → found ≡ wanted
-head_ended text mark is_open at line found wanted k so_far here is_kind ends =
-    sym (so_far ∙ ap (λ ls. option_or found (first_of text mark (in_report text is_open ls))) here
-    ∙ ap (option_or found) (first_ended text mark is_open line (lines_from text line.next)
+head_ended text p is_open at line found wanted k so_far here is_kind ends =
+    sym (so_far ∙ ap (λ ls. option_or found (first_where p (in_report text is_open ls))) here
+    ∙ ap (option_or found) (first_ended text p is_open line (lines_from text line.next)
     (sym (ap (ends_report is_open) is_kind) ∙ ends)) ∙ or_none found)
 
 -- the text ends
-pub head_none : (text : List ℕ) (mark : Mark) (is_open : Bool) (at : ℕ) (found wanted : Option Line)
-    → wanted ≡ option_or found (first_of text mark (in_report text is_open (lines_from text at)))
+pub head_none : (text : List ℕ) (p : Line → Bool) (is_open : Bool) (at : ℕ) (found wanted : Option Line)
+    → wanted ≡ option_or found (first_where p (in_report text is_open (lines_from text at)))
     → lines_from text at ≡ [] → found ≡ wanted
-unfolding first_of
-head_none text mark is_open at found wanted so_far past =
-    sym (so_far ∙ ap (λ ls. option_or found (first_of text mark (in_report text is_open ls))) past ∙ or_none found)
+unfolding first_where
+head_none text p is_open at found wanted so_far past =
+    sym (so_far ∙ ap (λ ls. option_or found (first_where p (in_report text is_open ls))) past ∙ or_none found)
 
 -- one line more, which may open a report
 pub opening_more : (text : List ℕ) (is_open : Bool) (line : Line) (lines : List Line) (last : Option Line)

@@ -5,8 +5,8 @@ use Rattle.death_spec.specs.Marks.{front_in}
 use denote.Bor.{Bor}
 
 -- the rows without their borrows
-abbrev pub plain : List (Mark × Bor (List ℕ)) → List (Mark × List ℕ)
-plain rows = map (λ (row : Mark × Bor (List ℕ)). (row.0, row.1.now)) rows
+abbrev pub plain : {X : Type 0} → List (X × Bor (List ℕ)) → List (X × List ℕ)
+plain {X} rows = map (λ (row : X × Bor (List ℕ)). (row.0, row.1.now)) rows
 
 -- a text fits no row if its first byte is not among these
 abbrev pub Covers : List (Mark × List ℕ) → List Bool → Type 0

@@ -5,6 +5,8 @@
 ghost use Rattle.std.specs.Prelude.{◌≡◌, OnOk, IfOk};
 ghost use Rattle.death_spec.specs.Reports.{death_of, trace_of};
 
+mod causes;
+mod endings;
 pub mod laws;
 mod lines;
 mod marks;
@@ -12,7 +14,8 @@ mod reports;
 mod telling;
 mod traces;
 
-pub use death_spec::{Class, Death, Line, Mark, Span};
+pub use death_spec::{Class, Death, Ended, Ending, Line, Mark, Span};
+pub use endings::ending;
 pub use lines::{is_a, level, next_line, part};
 use std::alloc::{AllocError, Global};
 
@@ -23,7 +26,7 @@ pub fn death(text: &[u8]) -> Option<Death>
     ensures { result ≡ death_of text.now }
 {
     let line = telling::telling_line(text)?;
-    Some(match telling::cause_of(text, line) {
+    Some(match causes::cause_of(text, line) {
         Some(cause) => reports::death_at(text, cause, Some(line)),
         None => reports::death_at(text, line, None),
     })

@@ -4,6 +4,7 @@ ghost use Rattle.death_spec.specs.Marks.{rows};
 ghost use Rattle.death.specs.Rows.{Covers};
 ghost use Rattle.death_spec.specs.Lines.{bracket_end, level_len, stamp_len, caller_len, content_len, line_of};
 ghost use Rattle.death_spec.specs.Lines.{lines_from, part, digits_level, level_of, is_kernels, said, kind, is_a};
+ghost use Rattle.death_spec.specs.Lines.{unnumbered, mark_in};
 
 use crate::marks::{byte_at, is_mark, line_len, mark_by, mark_of, run_from, tail};
 use death_spec::{Class, Line, Mark};
@@ -146,19 +147,38 @@ pub fn said(text: &[u8], line: Line) -> &[u8]
     }
 }
 
+fn unnumbered(words: &[u8]) -> &[u8]
+    ensures { result.now ≡ unnumbered words.now }
+{
+    part(words, run_from(words, 4, Class::Digit) + 1, words.len())
+}
+
+// A processor's number can stand before the words that count.
+fn mark_in(words: &[u8], mark: Option<Mark>) -> Option<Mark>
+    ensures { result ≡ mark_in words.now mark }
+{
+    if is_mark(mark, Mark::Numbered) {
+        mark_of(unnumbered(words))
+    } else {
+        mark
+    }
+}
+
 /// What `kind` answers, faster where most lines begin with no words.
 pub fn kind_by(firsts: &[bool; 256], text: &[u8], line: Line) -> Option<Mark>
     requires { Covers rows firsts.now }
     ensures { result ≡ kind text.now line }
 {
-    mark_by(firsts, said(text, line))
+    let words = said(text, line);
+    mark_in(words, mark_by(firsts, words))
 }
 
 /// What a line is, by the words at its front.
 pub fn kind(text: &[u8], line: Line) -> Option<Mark>
     ensures { result ≡ kind text.now line }
 {
-    mark_of(said(text, line))
+    let words = said(text, line);
+    mark_in(words, mark_of(words))
 }
 
 /// Whether the kernel says words of a mark at the front of a line.

@@ -3,7 +3,7 @@ ghost use Rattle.std.specs.Prelude.{◌≡◌, ◌≤◌, ◌<◌, ◌+◌, ℕ,
 ghost use Rattle.std.specs.Prelude.{drop, slice_index};
 ghost use Rattle.std.specs.List.{starts_with};
 ghost use Rattle.death_spec.specs.Marks.{rows, number_of, is_same, front_in, front_of, front_len, mark_of, is_mark};
-ghost use Rattle.death_spec.specs.Marks.{begins, place_of, is_in, is_blank, run};
+ghost use Rattle.death_spec.specs.Marks.{begins, place_of, is_in, is_blank, is_of_name, run};
 ghost use Rattle.death_spec.specs.declared.Class.TheVariants.{Line};
 ghost use Rattle.death.specs.Rows.{plain, Covers};
 
@@ -23,7 +23,7 @@ fn is_same(a: Mark, b: Mark) -> bool
 }
 
 // The first byte mostly decides.
-fn starts_with(text: &[u8], words: &[u8]) -> bool
+pub fn starts_with(text: &[u8], words: &[u8]) -> bool
     ensures { result ≡ starts_with nat_eq text.now words.now }
 {
     match (text.first(), words.first()) {
@@ -162,10 +162,16 @@ pub fn place_of(text: &[u8], mark: Mark) -> usize
     at
 }
 
-fn is_blank(b: u8) -> bool
+pub fn is_blank(b: u8) -> bool
     ensures { result ≡ is_blank b }
 {
     b == b' ' || b == b'\t'
+}
+
+fn is_of_name(b: u8) -> bool
+    ensures { result ≡ is_of_name b }
+{
+    !(is_blank(b) || b == b'+' || b == b'(' || b == b')')
 }
 
 fn is_in(b: u8, class: Class) -> bool
@@ -175,7 +181,8 @@ fn is_in(b: u8, class: Class) -> bool
         Class::Line => b != b'\n',
         Class::Blank => is_blank(b),
         Class::Word => !is_blank(b),
-        Class::Name => !(is_blank(b) || b == b'+'),
+        Class::Name => is_of_name(b),
+        Class::Symbol => is_of_name(b) && b != b'.',
         Class::Digit => 48 <= b && b <= 57,
         Class::Number => (48 <= b && b <= 57) || b == b'.',
     }

@@ -1,18 +1,24 @@
 // What the report below the telling line names.
-ghost use Rattle.std.specs.Prelude.{◌≡◌, ◌≤◌, ◌<◌, ◌+◌, if◌then◌else◌, length, map, IfOk, Some, None};
-ghost use Rattle.death_spec.specs.Lines.{said};
-ghost use Rattle.std.specs.Option.{option_or};
-ghost use Rattle.death_spec.specs.Reports.{report, first_of, span, number_end, task_at, task_end, cpu_in, task_in};
-ghost use Rattle.death_spec.specs.Reports.{kernel_in, place_in, entry_in, trace_below, trace_in, function_in};
-ghost use Rattle.death_spec.specs.Reports.{death_with, death_at};
-ghost use Rattle.death_spec.specs.declared.Mark.TheVariants.{Processor, Place, Trace};
-ghost use Rattle.death_spec.specs.Traces.{name_in, caller_of_panic};
+ghost use Rattle.std.specs.Prelude.{◌≡◌, ◌≤◌, ◌<◌, ◌+◌, ◌||◌, ◌==◌, if◌then◌else◌, length, drop, map};
+ghost use Rattle.std.specs.Prelude.{IfOk, IfSome, Some, None, false};
+ghost use Rattle.std.specs.Option.{option_or, option_map, option_map_or};
+ghost use Rattle.death_spec.specs.Marks.{is_blank};
+ghost use Rattle.death_spec.specs.Lines.{said, is_a};
+ghost use Rattle.death_spec.specs.Traces.{is_entry, name_in};
+ghost use Rattle.death_spec.specs.Reports.{report, first_where, first_in, own_in, trace_in, span, number_end, task_at};
+ghost use Rattle.death_spec.specs.Reports.{task_end, cpu_in, task_in, kernel_in, hung_in, task_of, named_from, place_end};
+ghost use Rattle.death_spec.specs.Reports.{name_from, blamed_at, place_in, entry_end, entry_in, traced_in, is_next_at};
+ghost use Rattle.death_spec.specs.Reports.{sure, by_call, of_place, of_calls, function_in, death_with, death_at};
+ghost use Rattle.death_spec.specs.declared.Mark.TheVariants.{HungTask, Processor, Place, Link};
 
-use crate::lines::{is_a, kind_by, next_line, said};
-use crate::marks::{firsts, front_len, is_mark, place_of, run_from};
-use crate::telling::{ends_report, is_of_oops};
+use crate::lines::{is_a, kind, kind_by, next_line, part, said};
+use crate::marks::{
+    begins, byte_at, firsts, front_len, is_blank, is_mark, place_of, run, run_from, starts_with,
+    tail,
+};
+use crate::telling::{ends_report, is_of_oops, is_panic};
 use crate::traces;
-use death_spec::{Class, Death, Line, Mark, Span};
+use death_spec::{Class, Death, Function, Line, Mark, Span};
 use std::alloc::{AllocError, Global};
 
 /// The lines of a report that name something, each the first of its kind.
@@ -20,8 +26,9 @@ use std::alloc::{AllocError, Global};
 struct Named {
     processor: Option<Line>,
     place: Option<Line>,
-    // Above a call trace.
-    trace: Option<Line>,
+    link: Option<Line>,
+    // Of a call trace.
+    entry: Option<Line>,
 }
 
 // The earlier of two lines, the second of them if it counts.
@@ -36,30 +43,62 @@ fn earlier(found: Option<Line>, counts: bool, line: Line) -> Option<Line>
 
 // The heads in the report below the telling line.
 fn heads(text: &[u8], telling: Line) -> Named
-    ensures processor { result.processor ≡ first_of text.now Processor (report text.now telling) }
-    ensures place { result.place ≡ first_of text.now Place (report text.now telling) }
-    ensures trace { result.trace ≡ first_of text.now Trace (report text.now telling) }
+    ensures processor { result.processor ≡ first_in text.now Processor telling }
+    ensures place { result.place ≡ first_in text.now Place telling }
+    ensures link { result.link ≡ first_in text.now Link telling }
+    ensures entry { result.entry ≡ first_where (λ line. is_entry (said text.now line)) (report text.now telling) }
 {
     let firsts = firsts();
     let is_open = is_of_oops(kind_by(&firsts, text, telling));
     let mut processor = None;
     let mut place = None;
-    let mut trace = None;
+    let mut link = None;
+    let mut entry = None;
     let mut at = telling.next;
     'lines: while let Some(line) = next_line(text, at) {
         let mark = kind_by(&firsts, text, line);
         if ends_report(is_open, mark) {
             break;
         }
-        processor = earlier(processor, is_mark(mark, Mark::Processor), line);
-        place = earlier(place, is_mark(mark, Mark::Place), line);
-        trace = earlier(trace, is_mark(mark, Mark::Trace), line);
+        let is_processor = is_mark(mark, Mark::Processor);
+        let is_place = is_mark(mark, Mark::Place);
+        let is_link = is_mark(mark, Mark::Link);
+        let words = said(text, line);
+        let is_entry = traces::is_entry(words);
+        processor = earlier(processor, is_processor, line);
+        place = earlier(place, is_place, line);
+        link = earlier(link, is_link, line);
+        entry = earlier(entry, is_entry, line);
         at = line.next;
     }
     Named {
         processor,
         place,
-        trace,
+        link,
+        entry,
+    }
+}
+
+fn unless(hangs: bool, line: Option<Line>) -> Option<Line>
+    ensures { result ≡ (if hangs then None else line) }
+{
+    if hangs { None } else { line }
+}
+
+// The heads that are of the telling line's own task.
+fn own_heads(text: &[u8], telling: Line) -> Named
+    ensures processor { result.processor ≡ own_in text.now Processor telling }
+    ensures place { result.place ≡ own_in text.now Place telling }
+    ensures link { result.link ≡ own_in text.now Link telling }
+    ensures entry { result.entry ≡ first_where (λ line. is_entry (said text.now line)) (report text.now telling) }
+{
+    let heads = heads(text, telling);
+    let hangs = is_a(text, Mark::HungTask, telling);
+    Named {
+        processor: unless(hangs, heads.processor),
+        place: unless(hangs, heads.place),
+        link: unless(hangs, heads.link),
+        entry: heads.entry,
     }
 }
 
@@ -126,12 +165,103 @@ fn kernel_in(text: &[u8], line: Option<Line>) -> Option<Span>
     span(line, task_end(words) + 1, words.len())
 }
 
+// The task that hangs.
+fn hung_in(text: &[u8], line: Line) -> Option<Span>
+    ensures { result ≡ hung_in text.now line }
+{
+    let words = said(text, line);
+    span(line, front_len(words), place_of(words, Mark::Blocked))
+}
+
+fn task_of(text: &[u8], telling: Line, processor: Option<Line>) -> Option<Span>
+    requires { processor ≡ own_in text.now Processor telling }
+    ensures { result ≡ task_of text.now telling }
+{
+    if is_a(text, Mark::HungTask, telling) {
+        hung_in(text, telling)
+    } else {
+        task_in(text, processor)
+    }
+}
+
+// Where a name begins, by the byte at a place.
+fn start_at(b: u8, at: usize, start: usize) -> usize
+    requires { at < 18446744073709551615 }
+    ensures { result ≡ (if is_blank b || b == 40 then at + 1 else start) }
+{
+    if is_blank(b) || b == b'(' {
+        at + 1
+    } else {
+        start
+    }
+}
+
+fn named_from(words: &[u8], from: usize) -> Option<usize>
+    ensures from { result ≡ named_from from from (drop from words.now) }
+    ensures within { IfSome result (λ at. at ≤ length words.now) }
+{
+    let mut start = from;
+    let mut at = from;
+    'bytes: while at < words.len() {
+        if begins(tail(words, at), Mark::Offset) {
+            return Some(start);
+        }
+        start = start_at(words[at], at, start);
+        at += 1;
+    }
+    None
+}
+
+fn name_from(words: &[u8]) -> Option<usize>
+    ensures from { result ≡ name_from words.now }
+    ensures within { IfSome result (λ at. at ≤ length words.now) }
+{
+    named_from(words, front_len(words))
+}
+
+fn place_end(words: &[u8]) -> usize
+    ensures end { result ≡ place_end words.now }
+    ensures within { result ≤ length words.now }
+{
+    let last = words.len().saturating_sub(1);
+    if byte_at(words, last) == b')' {
+        last
+    } else {
+        words.len()
+    }
+}
+
+fn blamed_at(text: &[u8], line: Line, at: Option<usize>) -> Option<Span>
+    requires { IfSome at (λ at. at ≤ length (said text.now line)) }
+    ensures { result ≡ blamed_at text.now line at }
+{
+    let at = at?;
+    let words = said(text, line);
+    if traces::is_helper(tail(words, at), false) {
+        None
+    } else {
+        span(line, at, place_end(words))
+    }
+}
+
 fn place_in(text: &[u8], line: Option<Line>) -> Option<Span>
     ensures { result ≡ place_in text.now line }
 {
     let line = line?;
-    let words = said(text, line);
-    span(line, front_len(words), words.len())
+    blamed_at(text, line, name_from(said(text, line)))
+}
+
+fn entry_end(words: &[u8]) -> usize
+    ensures end { result ≡ entry_end words.now }
+    ensures within { result ≤ length words.now }
+{
+    let at = traces::name_at(words);
+    let end = at + run(traces::unplaced(words), Class::Name);
+    if byte_at(words, end) == b'+' {
+        words.len()
+    } else {
+        end
+    }
 }
 
 fn entry_in(text: &[u8], line: Option<Line>) -> Option<Span>
@@ -139,32 +269,71 @@ fn entry_in(text: &[u8], line: Option<Line>) -> Option<Span>
 {
     let line = line?;
     let words = said(text, line);
-    span(line, traces::name_at(words), words.len())
+    span(line, traces::name_at(words), entry_end(words))
 }
 
-// The entry below that of `panic`, in the trace of a panic's report.
-#[tactic(auto, unfolding(death_spec::specs::Traces::caller_of_panic))]
-fn caller_in(text: &[u8], head: Option<Line>) -> Option<Line>
-    ensures { result ≡ caller_of_panic text.now (trace_below text.now head) }
+// The function to blame in the trace.
+fn traced_in(text: &[u8], telling: Line, entry: Option<Line>) -> Option<Span>
+    requires { entry ≡ first_where (λ line. is_entry (said text.now line)) (report text.now telling) }
+    ensures { result ≡ traced_in text.now telling }
 {
-    let head = head?;
-    traces::caller_of_panic(text, head.next)
+    let hangs = is_a(text, Mark::HungTask, telling);
+    entry_in(text, traces::to_blame(text, hangs, entry))
 }
 
-fn function_in(text: &[u8], telling: Line, heads: Named) -> Option<Span>
-    requires place { heads.place ≡ first_of text.now Place (report text.now telling) }
-    requires trace { heads.trace ≡ first_of text.now Trace (report text.now telling) }
+fn is_next_at(text: &[u8], span: Span) -> bool
+    ensures { result ≡ is_next_at text.now span }
+{
+    let end = run_from(text, span.start, Class::Name);
+    starts_with(part(text, end, text.len()), b"+0x0/".as_slice())
+}
+
+fn sure(span: Option<Span>) -> Option<Function>
+    ensures { result ≡ option_map sure span }
+{
+    let span = span?;
+    Some(Function {
+        span,
+        is_next: false,
+    })
+}
+
+fn by_call(text: &[u8], span: Option<Span>) -> Option<Function>
+    ensures { result ≡ option_map (by_call text.now) span }
+{
+    let span = span?;
+    let is_next = is_next_at(text, span);
+    Some(Function { span, is_next })
+}
+
+fn function_in(text: &[u8], telling: Line, named: Named) -> Option<Function>
+    requires place { named.place ≡ own_in text.now Place telling }
+    requires link { named.link ≡ own_in text.now Link telling }
+    requires entry { named.entry ≡ first_where (λ line. is_entry (said text.now line)) (report text.now telling) }
     ensures { result ≡ function_in text.now telling }
 {
-    match place_in(text, heads.place) {
-        Some(place) => Some(place),
-        None => {
-            if is_a(text, Mark::Panic, telling) {
-                entry_in(text, caller_in(text, heads.trace))
-            } else {
-                None
-            }
-        }
+    let place = sure(place_in(text, named.place));
+    let traced = traced_in(text, telling, named.entry);
+    if is_panic(kind(text, telling)) {
+        by_call(text, traced).or(place)
+    } else {
+        place.or(by_call(text, place_in(text, named.link).or(traced)))
+    }
+}
+
+fn span_of(function: Option<Function>) -> Option<Span>
+    ensures { result ≡ option_map (λ f. f.span) function }
+{
+    let function = function?;
+    Some(function.span)
+}
+
+fn is_next(function: Option<Function>) -> bool
+    ensures { result ≡ option_map_or (λ f. f.is_next) function false }
+{
+    match function {
+        Some(function) => function.is_next,
+        None => false,
     }
 }
 
@@ -172,14 +341,16 @@ fn function_in(text: &[u8], telling: Line, heads: Named) -> Option<Span>
 pub fn death_at(text: &[u8], telling: Line, second: Option<Line>) -> Death
     ensures { result ≡ death_at text.now telling second }
 {
-    let heads = heads(text, telling);
+    let named = own_heads(text, telling);
+    let function = function_in(text, telling, named);
     Death {
         telling,
         second,
-        cpu: cpu_in(text, heads.processor),
-        task: task_in(text, heads.processor),
-        kernel: kernel_in(text, heads.processor),
-        function: function_in(text, telling, heads),
+        cpu: cpu_in(text, named.processor),
+        task: task_of(text, telling, named.processor),
+        kernel: kernel_in(text, named.processor),
+        function: span_of(function),
+        is_next: is_next(function),
     }
 }
 
@@ -187,8 +358,5 @@ pub fn death_at(text: &[u8], telling: Line, second: Option<Line>) -> Death
 pub fn trace_in(alloc: Global, text: &[u8], telling: Line) -> Result<Vec<Span>, AllocError>
     ensures { IfOk result (λ v. v.items ≡ map (name_in text.now) (trace_in text.now telling)) }
 {
-    match heads(text, telling).trace {
-        Some(head) => traces::names(alloc, text, head.next),
-        None => Ok(Vec::new(alloc)),
-    }
+    traces::names(alloc, text, heads(text, telling).entry)
 }

@@ -1,32 +1,50 @@
 // The line that tells why the machine died.
 ghost use Rattle.std.specs.Prelude.{◌≡◌, if◌then◌else◌, Some};
-ghost use Rattle.death_spec.specs.Telling.{last_in, is_of_oops, opens, ends_report, open_behind, last_oops};
-ghost use Rattle.death_spec.specs.Telling.{telling_line, is_fatal, cause_of};
-ghost use Rattle.death_spec.specs.declared.Mark.TheVariants.{Panic, Warning};
+ghost use Rattle.death_spec.specs.Telling.{last_in, is_panic, is_fault, is_warning, is_of_oops, opens, ends_report};
+ghost use Rattle.death_spec.specs.Telling.{open_behind, last_oops, telling_line};
 
-use crate::lines::{is_a, kind_by, next_line, part, said};
-use crate::marks::{firsts, is_mark, place_of};
+use crate::lines::{kind_by, next_line};
+use crate::marks::{firsts, is_mark};
 use death_spec::{Line, Mark};
+
+pub fn is_panic(kind: Option<Mark>) -> bool
+    ensures { result ≡ is_panic kind }
+{
+    is_mark(kind, Mark::Panic)
+}
+
+pub fn is_fault(kind: Option<Mark>) -> bool
+    ensures { result ≡ is_fault kind }
+{
+    is_mark(kind, Mark::Fault)
+        || is_mark(kind, Mark::SoftLockup)
+        || is_mark(kind, Mark::HardLockup)
+        || is_mark(kind, Mark::StackOverflow)
+        || is_mark(kind, Mark::SystemError)
+}
+
+pub fn is_warning(kind: Option<Mark>) -> bool
+    ensures { result ≡ is_warning kind }
+{
+    is_mark(kind, Mark::Warning) || is_mark(kind, Mark::HungTask) || is_mark(kind, Mark::Stall)
+}
 
 pub fn is_of_oops(kind: Option<Mark>) -> bool
     ensures { result ≡ is_of_oops kind }
 {
-    is_mark(kind, Mark::Fault) || is_mark(kind, Mark::Oops)
+    is_fault(kind) || is_mark(kind, Mark::Oops)
 }
 
-fn opens(is_open: bool, kind: Option<Mark>) -> bool
+pub fn opens(is_open: bool, kind: Option<Mark>) -> bool
     ensures { result ≡ opens is_open kind }
 {
-    is_mark(kind, Mark::Fault) || (is_mark(kind, Mark::Oops) && !is_open)
+    is_fault(kind) || (is_mark(kind, Mark::Oops) && !is_open)
 }
 
 pub fn ends_report(is_open: bool, kind: Option<Mark>) -> bool
     ensures { result ≡ ends_report is_open kind }
 {
-    opens(is_open, kind)
-        || is_mark(kind, Mark::Panic)
-        || is_mark(kind, Mark::Warning)
-        || is_mark(kind, Mark::End)
+    opens(is_open, kind) || is_panic(kind) || is_warning(kind) || is_mark(kind, Mark::End)
 }
 
 fn open_behind(is_open: bool, kind: Option<Mark>) -> bool
@@ -45,7 +63,7 @@ struct LastLines {
 }
 
 // The later of two lines, the first of them if it counts.
-fn later(counts: bool, line: Line, found: Option<Line>) -> Option<Line>
+pub fn later(counts: bool, line: Line, found: Option<Line>) -> Option<Line>
     ensures { result ≡ (if counts then Some line else found) }
 {
     if counts { Some(line) } else { found }
@@ -53,9 +71,9 @@ fn later(counts: bool, line: Line, found: Option<Line>) -> Option<Line>
 
 // The last line of each kind that can tell.
 fn last_of_each(text: &[u8]) -> LastLines
-    ensures panic { result.panic ≡ last_in text.now Panic }
+    ensures panic { result.panic ≡ last_in text.now is_panic }
     ensures oops { result.oops ≡ last_oops text.now }
-    ensures warning { result.warning ≡ last_in text.now Warning }
+    ensures warning { result.warning ≡ last_in text.now is_warning }
 {
     let firsts = firsts();
     let mut panic = None;
@@ -65,9 +83,9 @@ fn last_of_each(text: &[u8]) -> LastLines
     let mut at = 0;
     'lines: while let Some(line) = next_line(text, at) {
         let mark = kind_by(&firsts, text, line);
-        panic = later(is_mark(mark, Mark::Panic), line, panic);
+        panic = later(is_panic(mark), line, panic);
         oops = later(opens(is_open, mark), line, oops);
-        warning = later(is_mark(mark, Mark::Warning), line, warning);
+        warning = later(is_warning(mark), line, warning);
         is_open = open_behind(is_open, mark);
         at = line.next;
     }
@@ -89,23 +107,5 @@ pub fn telling_line(text: &[u8]) -> Option<Line>
             Some(line) => Some(line),
             None => last.warning,
         },
-    }
-}
-
-fn is_fatal(text: &[u8], line: Line) -> bool
-    ensures { result ≡ is_fatal text.now line }
-{
-    let words = said(text, line);
-    is_a(text, Mark::Panic, line) && place_of(words, Mark::Fatal) < words.len()
-}
-
-#[tactic(auto, unfolding(death_spec::specs::Telling::cause_of))]
-pub fn cause_of(text: &[u8], line: Line) -> Option<Line>
-    ensures { result ≡ cause_of text.now line }
-{
-    if is_fatal(text, line) {
-        last_of_each(part(text, 0, line.start)).oops
-    } else {
-        None
     }
 }

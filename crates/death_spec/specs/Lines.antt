@@ -5,6 +5,7 @@ use Rattle.std.specs.List.{slice_split}
 use Rattle.death_spec.specs.declared.Line.{Line}
 use Rattle.death_spec.specs.declared.Class.TheVariants.{Blank, Digit, Number}
 use Rattle.death_spec.specs.declared.Mark.{Mark}
+use Rattle.death_spec.specs.declared.Mark.TheVariants.{Numbered}
 use Rattle.death_spec.specs.Marks.{run, mark_of, is_mark}
 
 -- where a bracket ends that opens at the front and has the bytes between two places in it; 0 if it is none
@@ -81,9 +82,16 @@ is_kernels text line =
 abbrev pub said : List ℕ → Line → List ℕ
 said text line = if is_kernels text line then part text line.text line.end else []
 
+-- MIPS has the processor's number before the words that count: `CPU 0 Unable to handle kernel paging request ..`
+abbrev pub unnumbered : List ℕ → List ℕ
+unnumbered words = part words (4 + run Digit (drop 4 words) + 1) (length words)
+
+abbrev pub mark_in : List ℕ → Option Mark → Option Mark
+mark_in words mark = if is_mark Numbered mark then mark_of (unnumbered words) else mark
+
 -- what a line is
 abbrev pub kind : List ℕ → Line → Option Mark
-kind text line = mark_of (said text line)
+kind text line = mark_in (said text line) (mark_of (said text line))
 
 abbrev pub is_a : List ℕ → Mark → Line → Bool
 is_a text mark line = is_mark mark (kind text line)

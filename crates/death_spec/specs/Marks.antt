@@ -4,28 +4,38 @@ use Rattle.std.specs.Prelude.{map, Option, Some, None, false}
 use Rattle.std.specs.List.{starts_with, prefix_len}
 use Rattle.std.specs.Option.{option_map, option_map_or}
 use Rattle.death_spec.specs.declared.Mark.{Mark}
-use Rattle.death_spec.specs.declared.Mark.TheVariants.{Panic, Fault, Oops, Warning, End, Processor, Place, Trace}
-use Rattle.death_spec.specs.declared.Mark.TheVariants.{Kernel, Fatal, Offset, Unsure, Stack, Address}
+use Rattle.death_spec.specs.declared.Mark.TheVariants.{Panic, Fault, SoftLockup, HardLockup, StackOverflow}
+use Rattle.death_spec.specs.declared.Mark.TheVariants.{SystemError, Oops, Warning, HungTask, Stall, End, Processor}
+use Rattle.death_spec.specs.declared.Mark.TheVariants.{Place, Link, Kernel, Blocked, Offset, Unsure, Stack, Address}
+use Rattle.death_spec.specs.declared.Mark.TheVariants.{Bare, Numbered}
 use Rattle.death_spec.specs.declared.words.TheConstants.{WORDS}
 use Rattle.death_spec.specs.declared.Class.{Class}
-use Rattle.death_spec.specs.declared.Class.TheVariants.{Line, Blank, Word, Name, Digit, Number}
+use Rattle.death_spec.specs.declared.Class.TheVariants.{Line, Blank, Word, Name, Symbol, Digit, Number}
 
 -- marks are told apart by their place in the list of marks
 abbrev pub number_of : Mark → ℕ
 number_of Panic = 0
 number_of Fault = 1
-number_of Oops = 2
-number_of Warning = 3
-number_of End = 4
-number_of Processor = 5
-number_of Place = 6
-number_of Trace = 7
-number_of Kernel = 8
-number_of Fatal = 9
-number_of Offset = 10
-number_of Unsure = 11
-number_of Stack = 12
-number_of Address = 13
+number_of SoftLockup = 2
+number_of HardLockup = 3
+number_of StackOverflow = 4
+number_of SystemError = 5
+number_of Oops = 6
+number_of Warning = 7
+number_of HungTask = 8
+number_of Stall = 9
+number_of End = 10
+number_of Processor = 11
+number_of Place = 12
+number_of Link = 13
+number_of Kernel = 14
+number_of Blocked = 15
+number_of Offset = 16
+number_of Unsure = 17
+number_of Stack = 18
+number_of Address = 19
+number_of Bare = 20
+number_of Numbered = 21
 
 abbrev pub is_same : Mark → Mark → Bool
 is_same a b = number_of a == number_of b
@@ -68,11 +78,16 @@ is_blank b = b == 32 || b == 9
 abbrev pub is_digit : ℕ → Bool
 is_digit b = nat_le 48 b && nat_le b 57
 
+-- no blank, plus sign or parenthesis
+abbrev pub is_of_name : ℕ → Bool
+is_of_name b = not (is_blank b || b == 43 || b == 40 || b == 41)
+
 abbrev pub is_in : Class → ℕ → Bool
 is_in Line b = not (b == 10)
 is_in Blank b = is_blank b
 is_in Word b = not (is_blank b)
-is_in Name b = not (is_blank b || b == 43)
+is_in Name b = is_of_name b
+is_in Symbol b = is_of_name b && not (b == 46)
 is_in Digit b = is_digit b
 is_in Number b = is_digit b || b == 46
 

@@ -1,31 +1,50 @@
 -- What the report below the telling line names
-use Rattle.std.specs.Prelude.{ℕ, ◌+◌, not, nat_lt, if◌then◌else◌, List, [], ◌∷◌, map, length, drop, Option, Some, None}
-use Rattle.std.specs.List.{take_while}
-use Rattle.std.specs.Option.{option_map, option_or}
+use Rattle.std.specs.Prelude.{ℕ, ◌+◌, ◌-◌, ◌==◌, Bool, false, not, ◌||◌, nat_eq, nat_lt, if◌then◌else◌, List, [], ◌∷◌}
+use Rattle.std.specs.Prelude.{map, length, drop, slice_index, codes, Option, Some, None}
+use Rattle.std.specs.List.{take_while, starts_with}
+use Rattle.std.specs.Option.{option_map, option_map_or, option_or}
 use Rattle.death_spec.specs.declared.Line.{Line}
 use Rattle.death_spec.specs.declared.Span.{Span}
+use Rattle.death_spec.specs.declared.Function.{Function}
 use Rattle.death_spec.specs.declared.Death.{Death}
-use Rattle.death_spec.specs.declared.Class.TheVariants.{Blank, Digit}
+use Rattle.death_spec.specs.declared.Class.TheVariants.{Blank, Digit, Name}
 use Rattle.death_spec.specs.declared.Mark.{Mark}
-use Rattle.death_spec.specs.declared.Mark.TheVariants.{Panic, Processor, Place, Trace, Kernel}
-use Rattle.death_spec.specs.Marks.{run, front_len, place_of}
-use Rattle.death_spec.specs.Lines.{lines_from, said, kind, is_a}
-use Rattle.death_spec.specs.Telling.{is_of_oops, ends_report, telling_line, cause_of}
-use Rattle.death_spec.specs.Traces.{name_at, name_in, entries, caller_of_panic}
+use Rattle.death_spec.specs.declared.Mark.TheVariants.{HungTask, Processor, Place, Link, Kernel, Blocked, Offset}
+use Rattle.death_spec.specs.Marks.{run, front_len, begins, place_of, is_blank}
+use Rattle.death_spec.specs.Lines.{lines_from, part, said, kind, is_a}
+use Rattle.death_spec.specs.Telling.{is_panic, is_of_oops, ends_report, telling_line}
+use Rattle.death_spec.specs.Causes.{cause_of}
+use Rattle.death_spec.specs.Traces.{name_at, unplaced, name_in, is_entry, entries_of, is_helper, to_blame}
+
+-- ---- the lines of the report
 
 -- the lines of the report below a line
 abbrev pub report : List ℕ → Line → List Line
 report text telling =
     take_while (λ line. not (ends_report (is_of_oops (kind text telling)) (kind text line))) (lines_from text telling.next)
 
-unfoldable pub first_of : List ℕ → Mark → List Line → Option Line
-first_of text mark [] = None
-first_of text mark (line ∷ lines) = if is_a text mark line then Some line else first_of text mark lines
+unfoldable pub first_where : (Line → Bool) → List Line → Option Line
+first_where counts [] = None
+first_where counts (line ∷ lines) = if counts line then Some line else first_where counts lines
+
+-- the first line of the report with a mark
+abbrev pub first_in : List ℕ → Mark → Line → Option Line
+first_in text mark telling = first_where (is_a text mark) (report text telling)
+
+-- the report of a task that hangs is its trace alone: what else stands there is of other tasks
+abbrev pub own_in : List ℕ → Mark → Line → Option Line
+own_in text mark telling = if is_a text HungTask telling then None else first_in text mark telling
+
+-- the first call trace in the report
+abbrev pub trace_in : List ℕ → Line → List Line
+trace_in text telling = entries_of text (first_where (λ line. is_entry (said text line)) (report text telling))
 
 -- the part of a line between two places of what it says, if it has a byte
 abbrev pub span : Line → ℕ → ℕ → Option Span
 span line from to =
     if nat_lt from to then Some (record { start = line.text + from; end = line.text + to }) else None
+
+-- ---- processor, task and kernel
 
 -- where the processor's number ends: `CPU: 0 PID: 1 Comm: sh Not tainted 6.1.0 #1` (dump_stack_print_info)
 abbrev pub number_end : List ℕ → ℕ
@@ -50,43 +69,97 @@ abbrev pub kernel_in : List ℕ → Option Line → Option Span
 kernel_in text None = None
 kernel_in text (Some line) = span line (task_end (said text line) + 1) (length (said text line))
 
--- what follows `RIP: 0010:`
+-- the task that hangs: `INFO: task stuck:28 blocked for more than 5 seconds.`
+abbrev pub hung_in : List ℕ → Line → Option Span
+hung_in text line = span line (front_len (said text line)) (place_of Blocked (said text line))
+
+abbrev pub task_of : List ℕ → Line → Option Span
+task_of text telling =
+    if is_a text HungTask telling then hung_in text telling else task_in text (own_in text Processor telling)
+
+-- ---- the function
+
+-- where the name begins that an offset follows, from a place on: behind the last blank or parenthesis, if one of these
+-- stands there. MIPS, PowerPC and s390 print an address before the name
+unfoldable pub named_from : ℕ → ℕ → List ℕ → Option ℕ
+named_from at start [] = None
+named_from at start (b ∷ bs) =
+    if begins Offset (b ∷ bs) then Some start
+    else named_from (at + 1) (if is_blank b || b == 40 then at + 1 else start) bs
+
+-- without the parenthesis that s390 closes
+abbrev pub place_end : List ℕ → ℕ
+place_end words = if slice_index words (length words - 1) == 41 then length words - 1 else length words
+
+abbrev pub name_from : List ℕ → Option ℕ
+name_from words = named_from (front_len words) (front_len words) (drop (front_len words) words)
+
+-- the function of a line such as `RIP: 0010:name+0x8/0x14`, if it is to blame
+abbrev pub blamed_at : List ℕ → Line → Option ℕ → Option Span
+blamed_at text line None = None
+blamed_at text line (Some at) =
+    if is_helper false (drop at (said text line)) then None else span line at (place_end (said text line))
+
 abbrev pub place_in : List ℕ → Option Line → Option Span
 place_in text None = None
-place_in text (Some line) = span line (front_len (said text line)) (length (said text line))
+place_in text (Some line) = blamed_at text line (name_from (said text line))
 
--- an entry of a trace from its name on
+-- an entry of a trace from its name on, and up to the caller of 32-bit ARM
+abbrev pub entry_end : List ℕ → ℕ
+entry_end words =
+    if slice_index words (name_at words + run Name (unplaced words)) == 43 then length words
+    else name_at words + run Name (unplaced words)
+
 abbrev pub entry_in : List ℕ → Option Line → Option Span
 entry_in text None = None
-entry_in text (Some line) = span line (name_at (said text line)) (length (said text line))
+entry_in text (Some line) = span line (name_at (said text line)) (entry_end (said text line))
 
--- the entries of the first call trace in the report
-abbrev pub trace_below : List ℕ → Option Line → List Line
-trace_below text None = []
-trace_below text (Some head) = entries text head.next
+-- the function to blame in the trace
+abbrev pub traced_in : List ℕ → Line → Option Span
+traced_in text telling = entry_in text (to_blame text (is_a text HungTask telling) (trace_in text telling))
 
-abbrev pub trace_in : List ℕ → Line → List Line
-trace_in text telling = trace_below text (first_of text Trace (report text telling))
+-- whether a name is that of the next function, `name+0x0/0x94`
+abbrev pub is_next_at : List ℕ → Span → Bool
+is_next_at text s =
+    starts_with nat_eq (part text (s.start + run Name (drop s.start text)) (length text)) (codes "+0x0/")
 
--- a panic without a place in the code is that of the function that called `panic`
-abbrev pub function_in : List ℕ → Line → Option Span
+abbrev pub sure : Span → Function
+sure s = record { span = s; is_next = false }
+
+abbrev pub by_call : List ℕ → Span → Function
+by_call text s = record { span = s; is_next = is_next_at text s }
+
+-- what runs, to where that returns, and what called it
+abbrev pub of_place : List ℕ → Line → Option Function
+of_place text telling = option_map sure (place_in text (own_in text Place telling))
+
+abbrev pub of_calls : List ℕ → Line → Option Function
+of_calls text telling =
+    option_map (by_call text)
+    (option_or (place_in text (own_in text Link telling)) (traced_in text telling))
+
+-- the place in a panic's report is that of the code that an interrupt stopped
+abbrev pub function_in : List ℕ → Line → Option Function
 function_in text telling =
-    option_or (place_in text (first_of text Place (report text telling)))
-    (if is_a text Panic telling then entry_in text (caller_of_panic text (trace_in text telling)) else None)
+    if is_panic (kind text telling)
+    then option_or (option_map (by_call text) (traced_in text telling)) (of_place text telling)
+    else option_or (of_place text telling) (of_calls text telling)
+
+-- ---- all of it
 
 abbrev pub death_with : List ℕ → Line → Option Line → Option Line → Death
 death_with text telling second processor = record {
   telling = telling;
   second = second;
   cpu = cpu_in text processor;
-  task = task_in text processor;
+  task = task_of text telling;
   kernel = kernel_in text processor;
-  function = function_in text telling;
+  function = option_map (λ f. f.span) (function_in text telling);
+  is_next = option_map_or (λ f. f.is_next) (function_in text telling) false;
 }
 
 abbrev pub death_at : List ℕ → Line → Option Line → Death
-death_at text telling second =
-    death_with text telling second (first_of text Processor (report text telling))
+death_at text telling second = death_with text telling second (own_in text Processor telling)
 
 abbrev pub death_by : List ℕ → Line → Option Line → Death
 death_by text line None = death_at text line None

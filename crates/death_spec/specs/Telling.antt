@@ -1,34 +1,45 @@
 -- The line that tells why the machine died
-use Rattle.std.specs.Prelude.{ℕ, Bool, false, not, ◌&&◌, ◌||◌, nat_lt, if◌then◌else◌, List, [], ◌∷◌, length, Option}
+use Rattle.std.specs.Prelude.{ℕ, Bool, false, not, ◌&&◌, ◌||◌, if◌then◌else◌, List, [], ◌∷◌, Option}
 use Rattle.std.specs.Prelude.{Some, None}
 use Rattle.std.specs.Option.{option_or}
 use Rattle.death_spec.specs.declared.Line.{Line}
 use Rattle.death_spec.specs.declared.Mark.{Mark}
-use Rattle.death_spec.specs.declared.Mark.TheVariants.{Panic, Fault, Oops, Warning, End, Fatal}
-use Rattle.death_spec.specs.Marks.{is_mark, place_of}
-use Rattle.death_spec.specs.Lines.{lines_from, part, said, kind, is_a}
+use Rattle.death_spec.specs.declared.Mark.TheVariants.{Panic, Fault, SoftLockup, HardLockup, StackOverflow}
+use Rattle.death_spec.specs.declared.Mark.TheVariants.{SystemError, Oops, Warning, HungTask, Stall, End}
+use Rattle.death_spec.specs.Marks.{is_mark}
+use Rattle.death_spec.specs.Lines.{lines_from, kind}
 
--- the last line with a mark
-unfoldable pub last_of : List ℕ → Mark → List Line → Option Line
-last_of text mark [] = None
-last_of text mark (line ∷ lines) =
-    option_or (last_of text mark lines) (if is_a text mark line then Some line else None)
+abbrev pub is_panic : Option Mark → Bool
+is_panic kind = is_mark Panic kind
 
-abbrev pub last_in : List ℕ → Mark → Option Line
-last_in text mark = last_of text mark (lines_from text 0)
+abbrev pub is_fault : Option Mark → Bool
+is_fault kind =
+    is_mark Fault kind || is_mark SoftLockup kind || is_mark HardLockup kind || is_mark StackOverflow kind
+    || is_mark SystemError kind
+
+abbrev pub is_warning : Option Mark → Bool
+is_warning kind = is_mark Warning kind || is_mark HungTask kind || is_mark Stall kind
+
+-- the last line of a kind
+unfoldable pub last_of : List ℕ → (Option Mark → Bool) → List Line → Option Line
+last_of text counts [] = None
+last_of text counts (line ∷ lines) =
+    option_or (last_of text counts lines) (if counts (kind text line) then Some line else None)
+
+abbrev pub last_in : List ℕ → (Option Mark → Bool) → Option Line
+last_in text counts = last_of text counts (lines_from text 0)
 
 -- a line of an oops
 abbrev pub is_of_oops : Option Mark → Bool
-is_of_oops kind = is_mark Fault kind || is_mark Oops kind
+is_of_oops kind = is_fault kind || is_mark Oops kind
 
 -- a fault opens a report. The head of an oops does if no report is open: else it belongs to the fault above it
 abbrev pub opens : Bool → Option Mark → Bool
-opens is_open kind = is_mark Fault kind || (is_mark Oops kind && not is_open)
+opens is_open kind = is_fault kind || (is_mark Oops kind && not is_open)
 
 -- another report begins, or this one ends: `---[ end trace`, `---[ end Kernel panic`
 abbrev pub ends_report : Bool → Option Mark → Bool
-ends_report is_open kind =
-    opens is_open kind || is_mark Panic kind || is_mark Warning kind || is_mark End kind
+ends_report is_open kind = opens is_open kind || is_panic kind || is_warning kind || is_mark End kind
 
 -- whether the report of an oops is open behind a line
 abbrev pub open_behind : Bool → Option Mark → Bool
@@ -46,13 +57,4 @@ last_oops text = last_opening text false (lines_from text 0)
 
 -- the last panic; without one the last oops; without one the last warning
 unfoldable pub telling_line : List ℕ → Option Line
-telling_line text = option_or (last_in text Panic) (option_or (last_oops text) (last_in text Warning))
-
--- a panic because of an oops (oops_end, die)
-abbrev pub is_fatal : List ℕ → Line → Bool
-is_fatal text line =
-    is_a text Panic line && nat_lt (place_of Fatal (said text line)) (length (said text line))
-
--- what such a panic is about: the last oops above it
-unfoldable pub cause_of : List ℕ → Line → Option Line
-cause_of text line = if is_fatal text line then last_oops (part text 0 line.start) else None
+telling_line text = option_or (last_in text is_panic) (option_or (last_oops text) (last_in text is_warning))

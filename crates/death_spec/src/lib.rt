@@ -2,8 +2,14 @@
 //! a crash log that tells it, and of what the report below that line names.
 #![tactic(auto)]
 
+pub mod causes;
+pub mod ends;
+pub mod frames;
 pub mod words;
 
+pub use causes::{CAUSES, FIRST_PROCESS};
+pub use ends::ENDS;
+pub use frames::FRAMES;
 pub use words::WORDS;
 
 /// What words at the front of a text say (`WORDS` has them).
@@ -13,22 +19,34 @@ pub enum Mark {
     Panic,
     /// The fault that an oops is about.
     Fault,
+    /// A fault: a task never lets another run.
+    SoftLockup,
+    /// A fault: a processor takes no interrupt.
+    HardLockup,
+    /// A fault: the kernel's stack was too small.
+    StackOverflow,
+    /// A fault: the hardware reports an error at no place of the code.
+    SystemError,
     /// The head of an oops.
     Oops,
-    /// A warning, a stall, or want of memory.
+    /// A warning, or want of memory.
     Warning,
+    /// A warning: a task waits for very long.
+    HungTask,
+    /// A warning: a processor never lets the kernel's RCU go on.
+    Stall,
     /// The end of a report.
     End,
     /// The processor, the task and the kernel of a report.
     Processor,
     /// The place in the code.
     Place,
-    /// The head of a call trace.
-    Trace,
+    /// The place to which the code there was to return.
+    Link,
     /// Of the line of the processor: what the kernel says of itself.
     Kernel,
-    /// Of a panic: a fault before it was fatal.
-    Fatal,
+    /// Of a task that hangs: what follows its name.
+    Blocked,
     /// In a call trace: what follows a function's name.
     Offset,
     /// In a call trace: the function may be no part of it.
@@ -37,6 +55,45 @@ pub enum Mark {
     Stack,
     /// In a call trace: an address before the name.
     Address,
+    /// In a call trace: an address in place of a name.
+    Bare,
+    /// A processor's number before the words that count.
+    Numbered,
+}
+
+/// What a panic is about: a report above it, by its kind and by which of that kind.
+#[derive(Clone, Copy, Debug, PartialEq, Eq)]
+pub enum Cause {
+    /// The last oops.
+    LastOops,
+    /// The last oops of process 1.
+    OopsOfInit,
+    LastSoftLockup,
+    LastHardLockup,
+    LastHungTask,
+    LastStall,
+    /// The fault whose report is still open at the panic.
+    OpenFault,
+    /// The warning whose report is still open at the panic.
+    OpenWarning,
+    OpenStackOverflow,
+    OpenSystemError,
+}
+
+/// The report that is open at a place of a log: its first line, and what that is.
+#[derive(Clone, Copy, Debug, PartialEq, Eq)]
+pub struct Opened {
+    pub head: Line,
+    pub mark: Mark,
+}
+
+/// What the kernel does in a function that begins a call trace and is not to blame.
+#[derive(Clone, Copy, Debug, PartialEq, Eq)]
+pub enum Way {
+    /// It tells of its death.
+    Dying,
+    /// It waits; only the trace of a task that hangs is about what comes below.
+    Waiting,
 }
 
 /// Bytes that belong together in a line.
@@ -48,8 +105,10 @@ pub enum Class {
     Blank,
     /// All but these.
     Word,
-    /// All but these and a plus sign.
+    /// All but these, a plus sign and parentheses.
     Name,
+    /// All but these and a point.
+    Symbol,
     /// A decimal digit.
     Digit,
     /// A decimal digit or a point.
@@ -81,6 +140,16 @@ pub struct Span {
     pub end: usize,
 }
 
+/// A function that a report names.
+#[derive(Clone, Copy, Debug, PartialEq, Eq)]
+pub struct Function {
+    /// Its name, such as `lkdtm_EXCEPTION+0x8/0x14 [lkdtm]`.
+    pub span: Span,
+    /// Whether a call trace has the place `+0x0`, as in `sysrq_reset_seq_param_set+0x0/0x94`: the call above it never
+    /// returns, and the function that made it mostly ends just before.
+    pub is_next: bool,
+}
+
 /// Why a machine died, and what the report below the telling line names.
 #[derive(Clone, Copy, Debug, PartialEq, Eq)]
 pub struct Death {
@@ -96,4 +165,27 @@ pub struct Death {
     pub kernel: Option<Span>,
     /// The function, such as `lkdtm_EXCEPTION+0x8/0x14 [lkdtm]`.
     pub function: Option<Span>,
+    /// Whether the one that is meant mostly ends just before that function.
+    pub is_next: bool,
+}
+
+/// How a log ends that tells of no death.
+#[derive(Clone, Copy, Debug, PartialEq, Eq)]
+pub enum Ending {
+    /// The machine was restarted in order.
+    Restarted,
+    /// It was switched off or halted in order.
+    SwitchedOff,
+    /// It was restarted by sysrq.
+    Reset,
+    /// The log breaks off: the machine hung, lost power or was reset from outside.
+    BrokenOff,
+}
+
+/// The end of a log that tells of no death.
+#[derive(Clone, Copy, Debug, PartialEq, Eq)]
+pub struct Ended {
+    pub ending: Ending,
+    /// The last line in which the kernel says something.
+    pub line: Line,
 }

@@ -2,7 +2,13 @@
 #![tactic(auto)]
 
 #[cfg(test)]
+mod cause_tests;
+#[cfg(test)]
 mod death_tests;
+#[cfg(test)]
+mod ending_tests;
+#[cfg(test)]
+mod form_tests;
 #[cfg(test)]
 mod lines_tests;
 #[cfg(test)]

@@ -1,20 +1,25 @@
 -- The first line of each kind is the one found, or among those from here. For the loop of `heads`.
-use Rattle.std.proofs.Common.{◌≡◌, ◌-◌, ◌+◌, length}
+use Rattle.std.proofs.Common.{◌≡◌, Bool, ◌-◌, ◌+◌, length, Option, List, ℕ}
 use Rattle.std.specs.Option.{option_or}
-use Rattle.death_spec.specs.declared.Mark.TheVariants.{Processor, Place, Trace}
-use Rattle.death_spec.specs.Lines.{lines_from}
-use Rattle.death_spec.specs.Reports.{first_of, report}
+use Rattle.death_spec.specs.declared.Line.{Line}
+use Rattle.death_spec.specs.declared.Mark.TheVariants.{Processor, Place, Link}
+use Rattle.death_spec.specs.Lines.{lines_from, said, is_a}
+use Rattle.death_spec.specs.Reports.{first_where, report}
+use Rattle.death_spec.specs.Traces.{is_entry}
 use Rattle.death.proofs.MarkedLines.{in_report}
 use Rattle.death.proofs.reports.heads.Given as goal
 
+-- of the lines of a report, the first that counts is the one found, or among those from a place on
+abbrev pub Found : List ℕ → Line → Bool → ℕ → (Line → Bool) → Option Line → Type 0
+Found text telling is_open at p found =
+    first_where p (report text telling) ≡ option_or found (first_where p (in_report text is_open (lines_from text at)))
+
 abbrev pub invariant-lines : goal.invariant-lines
 invariant-lines l =
-    (first_of l.text Processor (report l.text l.fn.telling)
-    ≡ option_or l.processor (first_of l.text Processor (in_report l.text l.is_open (lines_from l.text l.at))))
-    × (first_of l.text Place (report l.text l.fn.telling)
-    ≡ option_or l.place (first_of l.text Place (in_report l.text l.is_open (lines_from l.text l.at))))
-    × (first_of l.text Trace (report l.text l.fn.telling)
-    ≡ option_or l.trace (first_of l.text Trace (in_report l.text l.is_open (lines_from l.text l.at))))
+    Found l.text l.fn.telling l.is_open l.at (is_a l.text Processor) l.processor
+    × Found l.text l.fn.telling l.is_open l.at (is_a l.text Place) l.place
+    × Found l.text l.fn.telling l.is_open l.at (is_a l.text Link) l.link
+    × Found l.text l.fn.telling l.is_open l.at (λ line. is_entry (said l.text line)) l.entry
 
 abbrev pub decreases-lines : goal.decreases-lines
 decreases-lines l = length l.text + 1 - l.at

@@ -1,7 +1,7 @@
 -- A line with an entry is the first, one outside the trace ends it, and any other is passed. For
 -- `first_entry`.
 use Rattle.std.proofs.Common.{◌≡◌, ◌∷◌, [], ap, sym, ◌∙◌, arith}
-use Rattle.death_spec.specs.Traces.{is_entry, is_of_trace, entries, first}
+use Rattle.death_spec.specs.Traces.{is_entry, is_of_trace, entries}
 use Rattle.death.proofs.TraceEntries.{entry_yes, entry_no, entry_end, entry_past}
 use Rattle.death.proofs.traces.first_entry.Goals as goal
 
@@ -12,9 +12,6 @@ found c = c.lines.invariant.1
     ∙ entry_yes c.args.text.now c.lines.at c.in-Some.line c.in-Some.ensures.line
     (ap is_entry (sym c.said-words.ensures.said) ∙ sym c.is_entry.ensures ∙ c.if-is_entry.true)
 
-pub returns-then-is_entry-clause-line : goal.returns-then-is_entry-clause-line
-returns-then-is_entry-clause-line c = sym (ap first (found c))
-
 pub returns-then-is_entry-clause-rest : goal.returns-then-is_entry-clause-rest
 returns-then-is_entry-clause-rest c = found c
 
@@ -23,9 +20,6 @@ ended : (c : goal.Then-not-is_of_trace) → entries c.args.text.now c.args.from 
 ended c = c.lines.invariant.1
     ∙ entry_end c.args.text.now c.lines.at c.in-Some.line c.in-Some.ensures.line
     (ap is_of_trace (sym c.said-words.ensures.said) ∙ sym c.is_of_trace.ensures ∙ c.if-not-is_of_trace.true)
-
-pub returns-then-not-is_of_trace-clause-line : goal.returns-then-not-is_of_trace-clause-line
-returns-then-not-is_of_trace-clause-line c = sym (ap first (ended c))
 
 pub returns-then-not-is_of_trace-clause-none : goal.returns-then-not-is_of_trace-clause-none
 returns-then-not-is_of_trace-clause-none c = ended c
@@ -42,9 +36,6 @@ lines-preserved c = (
 -- the text ends
 past : (c : goal.In_default) → entries c.args.text.now c.args.from ≡ []
 past c = c.lines.invariant.1 ∙ entry_past c.args.text.now c.lines.at c.in_default.ensures.none
-
-pub returns-clause-line : goal.returns-clause-line
-returns-clause-line c = sym (ap first (past c))
 
 pub returns-clause-none : goal.returns-clause-none
 returns-clause-none c = past c
