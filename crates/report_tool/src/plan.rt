@@ -51,8 +51,8 @@ fn read(words: &[String], is_as_given: bool) -> Result<Params, ParamFault>
 impl Plan {
     ghost use Rattle.report_tool.specs.Plans.{IsLaid, IsPlan, IsPlanFault};
 
-    // The plan of these parameters.
-    pub(crate) fn of_params(alloc: Global, params: Params) -> Result<Plan, LayoutError>
+    /// The plan of these parameters.
+    pub fn of_params(alloc: Global, params: Params) -> Result<Plan, LayoutError>
         ensures { MatchResult result (IsLaid params) (IsCause (layout_of params)) }
     {
         let layout = layout(alloc, &params)?;
