@@ -44,7 +44,8 @@ words_with sig len start = record { sig = sig; len = len; start = start }
 
 words_front : (n : ℕ) (bytes : List ℕ) → 52 ≤ n → words_of (take n bytes) ≡ words_of bytes
 words_front n bytes h =
-    ap (λ (w : ℕ). words_with w (word (take n bytes) 4) (word (take n bytes) 8)) (word_front n bytes 0 (omega (arith, h)))
+    ap (λ (w : ℕ). words_with w (word (take n bytes) 4) (word (take n bytes) 8)) (word_front n bytes 0 (omega
+    (arith, h)))
     ∙ ap (λ (w : ℕ). words_with (word bytes 0) w (word (take n bytes) 8)) (word_front n bytes 4 (omega (arith, h)))
     ∙ ap (λ (w : ℕ). words_with (word bytes 0) (word bytes 4) w) (word_front n bytes 8 (omega (arith, h)))
 
@@ -95,7 +96,8 @@ signed_by machine z Console words header = ring_state z words
 signed_by machine z Ftrace words header = ring_state z words
 
 signed_is : (machine : Machine) (z : Zone) (kind : Kind) (bytes : List ℕ)
-    → signed_state machine z kind bytes ≡ signed_by machine z kind (words_of bytes) (dump_header machine (data_of bytes))
+    → signed_state machine z kind bytes ≡ signed_by machine z kind (words_of bytes) (dump_header machine (data_of
+    bytes))
 signed_is machine z Dump bytes = refl
 signed_is machine z Pmsg bytes = refl
 signed_is machine z Console bytes = refl

@@ -52,7 +52,8 @@ range_within xs at size i j h = by (cases_lt size i)
 
 -- what stands in a zone's data from one place to another, by the storage
 data_range : (z : Zone) (image : List ℕ) (i j : ℕ) → i ≤ j → 12 + j ≤ z.size
-    → span_bytes image (record { at = z.at + (12 + i); len = j - i }) ≡ slice_range (zone_bytes z image) (12 + i) (12 + j)
+    → span_bytes image (record { at = z.at + (12 + i); len = j - i }) ≡ slice_range (zone_bytes z image) (12 + i)
+    (12 + j)
 data_range z image i j le h =
     ap (λ (n : ℕ). slice_range image (z.at + (12 + i)) n)
     (let e : z.at + (12 + i) + (j - i) ≡ z.at + (12 + j) = omega (arith, le) in e)
@@ -197,7 +198,8 @@ dump_case machine image z Dump Found e s =
     } ∷ []) (sym (dump_bytes machine z image (words_of bytes) (data_of bytes) refl (s refl)))
     ∙ ap (λ (k : Kind). record {
       name = name_by k z.index (Some (dump_header machine (data_of bytes)));
-      logs = dump_content (dump_header machine (data_of bytes)) (log_bytes image (dump_log machine z (words_of bytes))) ∷ [];
+      logs = dump_content (dump_header machine (data_of bytes)) (log_bytes image (dump_log machine z (words_of
+          bytes))) ∷ [];
       header = Some (dump_header machine (data_of bytes));
     } ∷ []) (sym e)
 
@@ -217,7 +219,8 @@ pmsg_case machine image z Pmsg Broken e s = refl
 pmsg_case machine image z Pmsg Found e s =
     ap (λ (log : List ℕ). named PmsgName log ∷ [])
     (sym (ring_bytes z image (words_of (zone_bytes z image)) refl (s refl)))
-    ∙ ap (λ (k : Kind). named (name_by k z.index None) (log_bytes image (ring_log z (words_of (zone_bytes z image)))) ∷ [])
+    ∙ ap (λ (k : Kind). named (name_by k z.index None) (log_bytes image (ring_log z (words_of (zone_bytes z
+    image)))) ∷ [])
     (sym e)
 
 console_case : (machine : Machine) (image : List ℕ) (z : Zone) (kind : Kind) (state : State) → z.kind ≡ kind
@@ -236,7 +239,8 @@ console_case machine image z Console Broken e s = refl
 console_case machine image z Console Found e s =
     ap (λ (log : List ℕ). named ConsoleName log ∷ [])
     (sym (ring_bytes z image (words_of (zone_bytes z image)) refl (s refl)))
-    ∙ ap (λ (k : Kind). named (name_by k z.index None) (log_bytes image (ring_log z (words_of (zone_bytes z image)))) ∷ [])
+    ∙ ap (λ (k : Kind). named (name_by k z.index None) (log_bytes image (ring_log z (words_of (zone_bytes z
+    image)))) ∷ [])
     (sym e)
 
 trace_case : (machine : Machine) (image : List ℕ) (z : Zone) (kind : Kind) (state : State)

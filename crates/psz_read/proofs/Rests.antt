@@ -71,11 +71,13 @@ fold_end f c zones i past = ap (λ (zs : List Zone). fold f c zs) (drop_all i zo
 
 pub marks_step : (n i : ℕ) (image : List ℕ) → i < n
     → marks_from (n - i) (i * 512) image
-    ≡ as_marks (mark_at (length image) (i * 512) (drop (i * 512) image)) ++ marks_from (n - (i + 1)) ((i + 1) * 512) image
+    ≡ as_marks (mark_at (length image) (i * 512) (drop (i * 512) image)) ++ marks_from (n - (i + 1)) ((i + 1) * 512)
+    image
 unfolding marks_from
 marks_step n i image h =
     ap (λ (m : ℕ). marks_from m (i * 512) image) (let e : n - i ≡ suc (n - (i + 1)) = omega (arith, h) in e)
-    ∙ ap (λ (at : ℕ). as_marks (mark_at (length image) (i * 512) (drop (i * 512) image)) ++ marks_from (n - (i + 1)) at image)
+    ∙ ap (λ (at : ℕ). as_marks (mark_at (length image) (i * 512) (drop (i * 512) image)) ++ marks_from (n - (i + 1))
+    at image)
     (let e : i * 512 + 512 ≡ (i + 1) * 512 = omega arith in e)
 
 pub marks_more : (n i : ℕ) (image : List ℕ) (marks : List Mark) (m : Option Mark) (whole : List Mark) → i < n

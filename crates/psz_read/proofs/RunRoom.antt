@@ -1,4 +1,5 @@
--- Where sizes have no fault, all runs lie inside 128 MiB, and zones have 12 bytes at least. For the runs and their number.
+-- Where sizes have no fault, all runs lie inside 128 MiB, and zones have 12 bytes at least. For the runs and their
+-- number.
 use Rattle.std.proofs.Common.{◌≡◌, ℕ, zero, suc, ◌+◌, ◌-◌, ◌*◌, ◌/◌, ◌%◌, ◌^◌, ◌<◌, ◌≤◌, refl, sym, ap, ◌∙◌, arith}
 use Rattle.std.proofs.Common.{Bool, true, false, List, ◌++◌, length, length-append, div-mul-le_self, div-le_self}
 use Rattle.std.proofs.Common.{mul-le-mul_right, mul_comm, subst}

@@ -57,7 +57,8 @@ run_get kind size (suc n) index at zero h =
     ∙ ap (λ (m : ℕ). some_zone kind size (index + 0) m) (let e : at ≡ at + 0 * size = omega arith in e)
 run_get kind size (suc n) index at (suc i) h =
     run_get kind size n (index + 1) (at + size) i (omega (arith, h))
-    ∙ ap (λ (m : ℕ). some_zone kind size m (at + size + i * size)) (let e : index + 1 + i ≡ index + suc i = omega arith in e)
+    ∙ ap (λ (m : ℕ). some_zone kind size m (at + size + i * size)) (let e : index + 1 + i ≡ index + suc i = omega
+    arith in e)
     ∙ ap (λ (m : ℕ). some_zone kind size (index + suc i) m)
     (let e : at + size + i * size ≡ at + suc i * size = omega arith in e)
 
@@ -67,7 +68,11 @@ run_inside run i h = run_get run.kind run.size run.count 0 run.at i h
 
 pub run_past : (run : Run) (i : ℕ) → run.count ≤ i → slice_get (run_zones run) i ≡ None
 run_past run i h = slice_get_past (run_zones run) i
-    (let e : length (run_zones run) ≡ run.count = run_length run.kind run.size run.count 0 run.at in omega (arith, e, h))
+    (let e : length (run_zones run) ≡ run.count = run_length run.kind run.size run.count 0 run.at in omega (
+      arith,
+      e,
+      h,
+    ))
 
 pub run_place : (run : Run) (i : ℕ) → i < run.count → run.at + i * run.size ≤ run.at + run.count * run.size
 run_place run i h =

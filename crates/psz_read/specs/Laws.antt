@@ -1,17 +1,19 @@
 -- What a reader may rest on: a zone's front decides on it, no zone hides another, and the parts make the records
-use Rattle.std.specs.Prelude.{◌≡◌, ℕ, ◌≤◌, List, ◌++◌, take}
-use Rattle.std.specs.Int.{IsGcd}
+use Rattle.std.specs.Prelude.{◌≡◌, ℕ, ◌-◌, ◌≤◌, List, [], ◌∷◌, ◌++◌, take, Some, if◌then◌else◌}
+use Rattle.std.specs.Int.{IsGcd, ◌∣◌}
+use Rattle.std.specs.List.{AllByRecursion}
 use Rattle.psz_spec.specs.declared.Kind.{Kind}
 use Rattle.psz_spec.specs.declared.Kind.TheVariants.{Pmsg, Console, Ftrace, Dump}
 use Rattle.psz_spec.specs.declared.Zone.{Zone}
 use Rattle.psz_spec.specs.declared.Machine.{Machine}
 use Rattle.psz_spec.specs.declared.Cursor.{Cursor}
+use Rattle.psz_spec.specs.declared.Mark.{Mark}
 use Rattle.psz_spec.specs.States.{state_of}
 use Rattle.psz_spec.specs.Failures.{kernel_fault}
-use Rattle.psz_spec.specs.Records.{records_of, traces_of, listed_in}
+use Rattle.psz_spec.specs.Records.{is_of, records_of, traces_of, listed_in}
 use Rattle.psz_spec.specs.Parts.{part_of, parts_of, of_kind, records_from}
 use Rattle.psz_spec.specs.Cursor.{with_bytes}
-use Rattle.psz_spec.specs.Marks.{gcd}
+use Rattle.psz_spec.specs.Marks.{gcd, first_of, step_of}
 
 -- of a zone's bytes 52 tell all that its state, its kernel's fault, its part and the cursor depend on
 abbrev pub StateOfFront : Type 0
@@ -47,6 +49,22 @@ PartsAreRecords = (machine : Machine) (zones : List Zone) (image : List ℕ)
     ≡ records_from image (parts_of machine (of_kind Dump zones) image)
     (parts_of machine (of_kind Ftrace zones) image) (parts_of machine (of_kind Pmsg zones) image)
     (parts_of machine (of_kind Console zones) image)
+
+-- the distances between neighbours among the marks of a kind, the first from a place on
+unfoldable pub distances : Kind → ℕ → List Mark → List ℕ
+distances kind last [] = []
+distances kind last (m ∷ ms) =
+    if is_of kind m.kind then (m.at - last) ∷ distances kind m.at ms else distances kind last ms
+
+-- the step that marks show divides all their distances
+abbrev pub StepDivides : Type 0
+StepDivides = (kind : Kind) (first : Mark) (ms : List Mark) → first_of kind ms ≡ Some first
+    → AllByRecursion (λ (n : ℕ). step_of kind ms ∣ n) (distances kind first.at ms)
+
+-- and each number that divides all divides the step
+abbrev pub StepIsGreatest : Type 0
+StepIsGreatest = (kind : Kind) (first : Mark) (ms : List Mark) (d : ℕ) → first_of kind ms ≡ Some first
+    → AllByRecursion (λ (n : ℕ). d ∣ n) (distances kind first.at ms) → d ∣ step_of kind ms
 
 -- Euclid's algorithm finds the greatest common divisor
 abbrev pub GcdIsGreatest : Type 0

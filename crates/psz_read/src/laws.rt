@@ -1,6 +1,6 @@
 // What a reader may rest on.
 ghost use Rattle.psz_read.specs.Laws.{StateOfFront, FaultOfFront, PartOfFront, CursorOfFront, EachByItself};
-ghost use Rattle.psz_read.specs.Laws.{TracesByThemselves, PartsAreRecords, GcdIsGreatest};
+ghost use Rattle.psz_read.specs.Laws.{TracesByThemselves, PartsAreRecords, GcdIsGreatest, StepDivides, StepIsGreatest};
 
 /// A zone's first 52 bytes decide its state, where the kernel fails at it, its part, and the cursor.
 pub fn front_is_enough()
@@ -21,7 +21,9 @@ pub fn parts_are_records()
     ensures { PartsAreRecords }
 {}
 
-/// Euclid's algorithm finds the greatest common divisor.
+/// Euclid's algorithm finds the greatest common divisor, and the step of marks is that of their distances.
 pub fn gcd_is_greatest()
-    ensures { GcdIsGreatest }
+    ensures gcd { GcdIsGreatest }
+    ensures divides { StepDivides }
+    ensures greatest { StepIsGreatest }
 {}

@@ -10,7 +10,8 @@ use Rattle.psz_read.proofs.parts.parts_in.Goals as goal
 pub loop-index-preserved : goal.loop-index-preserved
 loop-index-preserved c =
     ap (λ (ps : List Part). ps
-    ++ parts_of c.args.machine (drop (c.loop-index.index + 1) (read_order (zones_of c.args.sizes.now))) c.args.image.now)
+    ++ parts_of c.args.machine (drop (c.loop-index.index + 1) (read_order (zones_of c.args.sizes.now)))
+    c.args.image.now)
     c.in_ok-add.ensures
     ∙ parts_more c.args.machine c.args.image.now (read_order (zones_of c.args.sizes.now)) c.loop-index.index
     c.loop-index.parts.items c.next_part-part.result

@@ -17,10 +17,12 @@ pub pick-requires-clause-first : goal.pick-requires-clause-first
 pick-requires-clause-first c = fits_pmsg c.args.sizes.now c.pmsg_run-pmsg.result c.requires c.pmsg_run-pmsg.ensures
 
 pub pick-requires-clause-second : goal.pick-requires-clause-second
-pick-requires-clause-second c = fits_console c.args.sizes.now c.console_run-console.result c.requires c.console_run-console.ensures
+pick-requires-clause-second c = fits_console c.args.sizes.now c.console_run-console.result c.requires
+    c.console_run-console.ensures
 
 pub pick-requires-clause-third : goal.pick-requires-clause-third
-pick-requires-clause-third c = fits_ftrace c.args.sizes.now c.ftrace_run-ftrace.result c.requires c.ftrace_run-ftrace.ensures
+pick-requires-clause-third c = fits_ftrace c.args.sizes.now c.ftrace_run-ftrace.result c.requires
+    c.ftrace_run-ftrace.ensures
 
 pub pick-requires-clause-fourth : goal.pick-requires-clause-fourth
 pick-requires-clause-fourth c = fits_dump c.args.sizes.now c.dump_run-dump.result c.requires c.dump_run-dump.ensures
