@@ -85,7 +85,14 @@ fn a_byte_that_is_wrong(rt: HostRuntime) {
         (0, 0x1e, b"".as_slice(), GzipFault::NotGzip),
         (2, 7, b"", GzipFault::UnknownMethod),
         (3, 0x20, b"", GzipFault::ReservedFlag),
-        (10, 0x4f, b"", GzipFault::Body { fault: Fault::ReservedBlock }),
+        (
+            10,
+            0x4f,
+            b"",
+            GzipFault::Body {
+                fault: Fault::ReservedBlock,
+            },
+        ),
         (15, 0xc3, b"abc", GzipFault::TextCrc),
         (19, 4, b"abc", GzipFault::TextLength),
     ] {

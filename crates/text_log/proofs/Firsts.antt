@@ -82,7 +82,7 @@ pub cut_here : (text : List ℕ) (is_booting : Bool) (at from : ℕ) (done : Lis
     ++ spans at (rest text (is_booting_behind is_booting (head_of (line_at text at))) (next_line text at)) (length text)
 cut_here text is_booting at from done h so_far cut =
     let below = spans at (rest text (is_booting_behind is_booting (head_of (line_at text at))) (next_line text at))
-        (length text) in
+    (length text) in
     so_far
     ∙ ap (λ more. done ++ more) (line_more text is_booting at from h
     ∙ ap (λ t. cond t (boot from at ∷ below)

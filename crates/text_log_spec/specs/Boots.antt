@@ -37,8 +37,8 @@ firsts zero text is_booting at = []
 firsts (suc n) text is_booting at =
     if nat_lt at (length text)
     then (let head = head_of (line_at text at) in
-      let below = firsts n text (is_booting_behind is_booting head) (next_line text at) in
-      if begins is_booting head then at ∷ below else below)
+    let below = firsts n text (is_booting_behind is_booting head) (next_line text at) in
+    if begins is_booting head then at ∷ below else below)
     else []
 
 abbrev pub boot : ℕ → ℕ → Boot
