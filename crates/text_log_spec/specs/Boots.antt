@@ -1,5 +1,6 @@
 -- Whether bytes are a text log, and the boots in it
-use Rattle.std.specs.Prelude.{◌≡◌, ℕ, zero, suc, ◌+◌, ◌<◌, Bool, true, false, not, ◌&&◌, nat_lt, if◌then◌else◌, List, [], ◌∷◌, length}
+use Rattle.std.specs.Prelude.{◌≡◌, ℕ, zero, suc, ◌+◌, ◌<◌, Bool, true, false, not, nat_lt, if◌then◌else◌, List}
+use Rattle.std.specs.Prelude.{[], ◌∷◌, length}
 use Rattle.std.specs.Prelude.{take, drop, slice_index, EachIndex, Option, Some, None}
 use Rattle.text_log_spec.specs.declared.Class.TheVariants.{Line}
 use Rattle.text_log_spec.specs.declared.Head.{Head}
