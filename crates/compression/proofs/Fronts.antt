@@ -9,7 +9,8 @@ use Rattle.compression_spec.specs.Magics.{first_row}
 use Rattle.compression.specs.Rows.{plain}
 
 -- a row that fits decides
-pub row_yes : (rows : List (Compression × Bor (List ℕ))) (text : List ℕ) (i : ℕ) (d : Compression × Bor (List ℕ)) → i < length rows
+pub row_yes : (rows : List (Compression × Bor (List ℕ))) (text : List ℕ) (i : ℕ) (d : Compression × Bor (List ℕ))
+    → i < length rows
     → starts_with nat_eq text (get_or rows i d).1.now ≡ true
     → first_row (plain (drop i rows)) text ≡ Some (get_or rows i d).0
 unfolding first_row
@@ -19,7 +20,8 @@ row_yes rows text i d inside e =
     (first_row (plain (drop (i + 1) rows)) text)) e
 
 -- any other leaves it to the rest
-pub row_no : (rows : List (Compression × Bor (List ℕ))) (text : List ℕ) (i : ℕ) (d : Compression × Bor (List ℕ)) → i < length rows
+pub row_no : (rows : List (Compression × Bor (List ℕ))) (text : List ℕ) (i : ℕ) (d : Compression × Bor (List ℕ))
+    → i < length rows
     → starts_with nat_eq text (get_or rows i d).1.now ≡ false
     → first_row (plain (drop i rows)) text ≡ first_row (plain (drop (i + 1) rows)) text
 unfolding first_row

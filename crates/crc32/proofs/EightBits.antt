@@ -1,8 +1,8 @@
 -- Bits leave a sum as they leave its parts, so the low byte's row and the other bits are what eight bits leave
 use Rattle.std.proofs.Common.{◌≡◌, ℕ, zero, suc, ◌+◌, ◌*◌, ◌/◌, ◌%◌, ◌^◌, ◌<◌, refl, sym, ap, ap₂, ◌∙◌, arith, bit_xor}
-use Rattle.std.proofs.Common.{inl, inr, ◌⊎◌, mul-zero, pow-suc}
+use Rattle.std.proofs.Common.{inl, inr, ◌⊎◌, pow-suc}
 use Rattle.gzip_spec.specs.Crc.{shifted}
-use Rattle.code_laws.proofs.Xor.{IsAdditive, top_bit, xor_swap, xor_zero_r, xor_shr, xor_mod, mod_two, shr_split}
+use Rattle.code_laws.proofs.Xor.{IsAdditive, top_bit, xor_swap, xor_zero_r, xor_shr, xor_mod, mod_two}
 
 -- what one bit takes from the rest
 taken : (x y : ℕ) → (x ≡ 0) ⊎ (x ≡ 1) → (y ≡ 0) ⊎ (y ≡ 1)

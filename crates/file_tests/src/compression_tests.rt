@@ -17,7 +17,12 @@ fn what_each_program_wrote(rt: HostRuntime) {
 // Python's zlib.compress, by its levels.
 #[test]
 fn what_zlib_wrote(rt: HostRuntime) {
-    for front in [b"\x78\x01".as_slice(), b"\x78\x5e", b"\x78\x9c", b"\x78\xda"] {
+    for front in [
+        b"\x78\x01".as_slice(),
+        b"\x78\x5e",
+        b"\x78\x9c",
+        b"\x78\xda",
+    ] {
         assert!(rt; compression_of(front) == Some(Compression::Zlib));
     }
 }
@@ -25,7 +30,14 @@ fn what_zlib_wrote(rt: HostRuntime) {
 #[test]
 fn what_none_wrote(rt: HostRuntime) {
     // no header's check holds, a preset dictionary, a magic that is cut, a text, a region's DBGC
-    for front in [b"\x78\x02".as_slice(), b"\x78\x20", b"\xfd7zXZ", b"[    0.000000]", b"DBGC", b""] {
+    for front in [
+        b"\x78\x02".as_slice(),
+        b"\x78\x20",
+        b"\xfd7zXZ",
+        b"[    0.000000]",
+        b"DBGC",
+        b"",
+    ] {
         assert!(rt; compression_of(front).is_none());
     }
 }

@@ -56,27 +56,18 @@ fn members_with_and_without_fields(rt: HostRuntime) {
     assert_text(&rt, &EMPTY, b"");
 }
 
-fn two_members() -> [u8; 46] {
-    let mut file = [0; 46];
-    file[..23].copy_from_slice(&ABC);
-    file[23..].copy_from_slice(&ABC);
-    file
-}
+// That file twice.
+const TWO: [u8; 46] = [
+    0x1f, 0x8b, 8, 0, 0, 0, 0, 0, 0, 3, 0x4b, 0x4c, 0x4a, 6, 0, 0xc2, 0x41, 0x24, 0x35, 3, 0, 0, 0,
+    0x1f, 0x8b, 8, 0, 0, 0, 0, 0, 0, 3, 0x4b, 0x4c, 0x4a, 6, 0, 0xc2, 0x41, 0x24, 0x35, 3, 0, 0, 0,
+];
 
 #[test]
 fn members_behind_one_another(rt: HostRuntime) {
-    assert_text(&rt, &two_members(), b"abcabc");
-    assert_too_long(&rt, &two_members(), 4, b"abca");
-    assert_broken(&rt, &two_members()[..40], b"abcabc", GzipFault::CutTrailer);
-    assert_broken(&rt, &two_members()[..24], b"abc", GzipFault::TrailingBytes);
-}
-
-fn changed(at: usize, byte: u8) -> [u8; 23]
-    requires { at < 23 }
-{
-    let mut file = ABC;
-    file[at] = byte;
-    file
+    assert_text(&rt, &TWO, b"abcabc");
+    assert_too_long(&rt, &TWO, 4, b"abca");
+    assert_broken(&rt, &TWO[..40], b"abcabc", GzipFault::CutTrailer);
+    assert_broken(&rt, &TWO[..24], b"abc", GzipFault::TrailingBytes);
 }
 
 #[test]
@@ -85,12 +76,21 @@ fn a_byte_that_is_wrong(rt: HostRuntime) {
         (0, 0x1e, b"".as_slice(), GzipFault::NotGzip),
         (2, 7, b"", GzipFault::UnknownMethod),
         (3, 0x20, b"", GzipFault::ReservedFlag),
-        (10, 0x4f, b"", GzipFault::Body { fault: Fault::ReservedBlock }),
+        (
+            10,
+            0x4f,
+            b"",
+            GzipFault::Body {
+                fault: Fault::ReservedBlock,
+            },
+        ),
         (15, 0xc3, b"abc", GzipFault::TextCrc),
         (19, 4, b"abc", GzipFault::TextLength),
     ] {
         if at < 23 {
-            assert_broken(&rt, &changed(at, byte), text, fault);
+            let mut file = ABC;
+            file[at] = byte;
+            assert_broken(&rt, &file, text, fault);
         }
     }
 }
@@ -127,7 +127,7 @@ fn assert_text_or_memory(rt: &(impl Abort + AllocGlobal), file: &[u8], text: &[u
 // Run with each allocation refused in turn: the answer is a want of memory, or the text.
 #[test]
 fn a_refused_growth_is_told(rt: HostRuntime) {
-    assert_text_or_memory(&rt, &two_members(), b"abcabc");
+    assert_text_or_memory(&rt, &TWO, b"abcabc");
 }
 
 // The check value of CRC-32, as catalogues of CRCs have it.

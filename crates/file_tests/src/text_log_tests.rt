@@ -24,7 +24,9 @@ fn the_lines_by_which_boots_begin(rt: HostRuntime) {
 
 #[test]
 fn other_lines(rt: HostRuntime) {
-    assert!(rt; head_of(b"[    0.000000] Booting Linux on physical CPU 0x0000000000") == Some(Head::Booting));
+    assert!(rt;
+        head_of(b"[    0.000000] Booting Linux on physical CPU 0x0000000000") == Some(Head::Booting)
+    );
     for line in [
         b"".as_slice(),
         b"[    1.000000] usb: Linux version 6.12.0",
@@ -49,7 +51,11 @@ fn assert_boots(rt: &(impl Abort + AllocGlobal), text: &[u8], ends: &[usize]) {
 fn boots_of_logs(rt: HostRuntime) {
     assert_boots(&rt, b"", &[]);
     assert_boots(&rt, b"no head\nof a boot", &[17]);
-    assert_boots(&rt, b"U-Boot\nLinux version 1\na\nLinux version 2\nb\n", &[7, 25, 43]);
+    assert_boots(
+        &rt,
+        b"U-Boot\nLinux version 1\na\nLinux version 2\nb\n",
+        &[7, 25, 43],
+    );
     // Arm writes two such lines
     assert_boots(
         &rt,

@@ -1,6 +1,7 @@
 -- What a body comes to, its text joined to that before it
-use Rattle.std.proofs.Common.{◌≡◌, ℕ, ◌+◌, ◌-◌, ◌<◌, ◌≤◌, List, ◌++◌, length, length-append, drop, Result, Ok, Err, refl, sym, ap, subst}
-use Rattle.std.proofs.Common.{arith, ◌∙◌}
+use Rattle.std.proofs.Common.{◌≡◌, ℕ, ◌+◌, ◌-◌, ◌<◌, ◌≤◌, List, ◌++◌, length, length-append, drop, Result, Ok, Err}
+use Rattle.std.proofs.Common.{refl, sym, subst}
+use Rattle.std.proofs.Common.{arith}
 use Rattle.inflate_spec.specs.Texts.{Inflates, Breaks, Exceeds}
 use Rattle.inflate_spec.specs.declared.Fault.{Fault}
 use Rattle.inflate.specs.declared.Inflated.{Inflated}
@@ -14,7 +15,7 @@ use Rattle.gzip_spec.specs.Headers.{member_end}
 use Rattle.gzip_spec.specs.Files.{Body, Whole, Faulty, Long, Deflates, behind_body, behind_end, HasBody}
 use Rattle.gzip.specs.declared.bodies.Stop.{Stop}
 use Rattle.gzip.specs.declared.bodies.Stop.TheVariants as stops
-use Rattle.gzip.specs.Goes.{Goes, Halts, IsJoined, stopped}
+use Rattle.gzip.specs.Goes.{Goes, IsJoined, stopped}
 use Rattle.gzip.proofs.Onwards.{ended_here, joined_goes}
 
 has_body : (most : ℕ) (bytes : List ℕ) (header : ℕ) (before : List ℕ) (body : Body)
@@ -35,7 +36,8 @@ pub whole_goes : (most : ℕ) (bytes : List ℕ) (header : ℕ) (before more tex
 whole_goes most bytes header before more text taken end result short is fits is_end inside joined =
     joined_goes most bytes before more text (HasBody most bytes header before) (stopped end) result joined
     (ended_here most bytes (before ++ more) (HasBody most bytes header before) end
-    (subst (λ (e : Result ℕ GzipFault). HasBody most bytes header before (behind_end bytes (before ++ more) e)) (sym is_end)
+    (subst (λ (e : Result ℕ GzipFault). HasBody most bytes header before (behind_end bytes (before ++ more) e))
+    (sym is_end)
     (has_body most bytes header before (Whole more taken) (is, fits)))
     (joined_short most before more short fits) inside)
 

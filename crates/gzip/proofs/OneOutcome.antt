@@ -1,5 +1,6 @@
 -- A file is one thing alone: a text, a text up to a fault, or one that gets too long
-use Rattle.std.proofs.Common.{◌≡◌, ℕ, ◌+◌, ◌-◌, ◌≤◌, ◌<◌, List, [], ◌∷◌, length, drop, Result, Ok, Err, ap, ap₂, sym, ◌∙◌, arith, subst}
+use Rattle.std.proofs.Common.{◌≡◌, ℕ, ◌-◌, ◌≤◌, List, [], ◌∷◌, length, drop, Result, Ok, Err, ap, ap₂, sym}
+use Rattle.std.proofs.Common.{◌∙◌, arith, subst}
 use Rattle.inflate_laws.proofs.OneEnd.{one_text, one_fault, no_fault_behind_text, too_long_is_long}
 use Rattle.inflate_spec.specs.Texts.{Inflates, Exceeds}
 use Rattle.gzip_spec.specs.declared.GzipFault.{GzipFault}

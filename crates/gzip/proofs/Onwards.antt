@@ -1,18 +1,20 @@
 -- What comes behind a member goes on to what the file is
-use Rattle.std.proofs.Common.{◌≡◌, ℕ, ◌+◌, ◌-◌, ◌≤◌, ◌<◌, ◌⊎◌, inl, inr, true, false, cond, ◌==◌, List, [], ◌∷◌, ◌++◌, length}
-use Rattle.std.proofs.Common.{drop, Result, Ok, Err, Option, Some, None, refl, sym, ap, subst, arith, ◌∙◌}
+use Rattle.std.proofs.Common.{◌≡◌, ℕ, ◌+◌, ◌≤◌, ◌<◌, inl, inr, cond, List, [], ◌∷◌, ◌++◌}
+use Rattle.std.proofs.Common.{length}
+use Rattle.std.proofs.Common.{drop, Result, Ok, Err, Some, None, refl, sym, ap, subst, arith}
 use Rattle.std.proofs.lemmas.Bool.{eq-eqb, ne_eqb}
 use Rattle.std.specs.Global.{Vec}
 use Rattle.std.proofs.lemmas.List.{drop-drop, length-drop}
 use Rattle.gzip_spec.specs.declared.GzipFault.{GzipFault}
 use Rattle.gzip_spec.specs.declared.GzipFault.TheVariants.{TrailingBytes, NotGzip}
 use Rattle.gzip_spec.specs.Headers.{header_end}
-use Rattle.gzip_spec.specs.Files.{Outcome, Text, Broken, TooLong, Next, Member, End, behind, behind_end, Leads, Members, Gives}
+use Rattle.gzip_spec.specs.Files.{Outcome, Text, Broken, TooLong, Next, Member, End, behind, behind_end, Leads, Members}
+use Rattle.gzip_spec.specs.Files.{Gives}
 use Rattle.gzip.specs.declared.bodies.Stop.{Stop}
 use Rattle.gzip.specs.declared.bodies.Stop.TheVariants as stops
 use Rattle.gzip.specs.declared.GzipError.{GzipError}
 use Rattle.gzip.specs.declared.GzipError.TheVariants as errors
-use Rattle.gzip.specs.Goes.{Onward, Halts, Goes, IsJoined, stopped, Finishes, Ends, Answers, Tells, GivesShort, AllGo}
+use Rattle.gzip.specs.Goes.{Onward, Goes, IsJoined, stopped, Ends, Answers, Tells, AllGo}
 use Rattle.gzip.proofs.OneOutcome.{one_outcome}
 
 -- one member more before others
@@ -34,7 +36,8 @@ pub later_on : (most : ℕ) (bytes text : List ℕ) (next : Next) (outcome : Out
     → Leads most (header_end TrailingBytes bytes) bytes text next → Ends most next outcome
     → Ends most (Member bytes text) outcome
 later_on most bytes text next outcome leads ends =
-    let all = step_on most TrailingBytes bytes text next outcome leads ends in record { places = all.0; members = all.1 }
+    let all = step_on most TrailingBytes bytes text next outcome leads ends in
+    record { places = all.0; members = all.1 }
 
 -- bytes that are left begin another member; behind the last one there are none
 pub goes_on : (bytes text : List ℕ) → 0 < length bytes → behind bytes text ≡ Member bytes text

@@ -1,9 +1,8 @@
 -- What the functions of the reader answer
-use Rattle.std.specs.Prelude.{◌≡◌, ℕ, ◌<◌, ◌≤◌, ◌⊎◌, ◌++◌, List, [], length, drop, Result, Ok, Err}
+use Rattle.std.specs.Prelude.{◌≡◌, ℕ, ◌<◌, ◌≤◌, ◌⊎◌, ◌++◌, List, length, drop, Result, Ok, Err}
 use Rattle.std.specs.Prelude.{Option, Some, None}
 use Rattle.std.specs.Global.{Vec}
 use Rattle.gzip_spec.specs.declared.GzipFault.{GzipFault}
-use Rattle.gzip_spec.specs.Headers.{header_end}
 use Rattle.gzip_spec.specs.Files.{Outcome, Text, Broken, TooLong, Next, Member, End, behind, Members, Gives}
 use Rattle.gzip_spec.specs.declared.GzipFault.TheVariants.{TrailingBytes}
 use Rattle.gzip.specs.declared.GzipError.{GzipError}

@@ -48,7 +48,13 @@ fn stopped(end: Result<usize, GzipFault>) -> Result<usize, Stop>
 }
 
 // The member whose header ends here.
-fn body(alloc: Global, bytes: &[u8], header: usize, most: usize, text: &mut Vec<u8>) -> Result<usize, Stop>
+fn body(
+    alloc: Global,
+    bytes: &[u8],
+    header: usize,
+    most: usize,
+    text: &mut Vec<u8>,
+) -> Result<usize, Stop>
     requires within { header ≤ length bytes.now }
     requires short { length text.old.items ≤ most }
     ensures { Goes most bytes.now text.new.items (HasBody most bytes.now header text.old.items) result }

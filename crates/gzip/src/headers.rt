@@ -41,7 +41,11 @@ fn ending(bytes: &[u8], at: usize) -> Result<usize, GzipFault>
     ensures end { result ≡ ending bytes.now at }
     ensures within { IfOk result (λ end. end ≤ length bytes.now) }
 {
-    if bytes.len() < at { Err(GzipFault::CutHeader) } else { Ok(at) }
+    if bytes.len() < at {
+        Err(GzipFault::CutHeader)
+    } else {
+        Ok(at)
+    }
 }
 
 fn extra_end(bytes: &[u8], at: usize) -> Result<usize, GzipFault>
@@ -97,7 +101,11 @@ fn extra_field(bytes: &[u8], at: usize) -> Result<usize, GzipFault>
     ensures end { result ≡ field bytes.now 2 extra_end at }
     ensures within { IfOk result (λ end. end ≤ length bytes.now) }
 {
-    if has_flag(byte_at(bytes, 3), 2) { extra_end(bytes, at) } else { Ok(at) }
+    if has_flag(byte_at(bytes, 3), 2) {
+        extra_end(bytes, at)
+    } else {
+        Ok(at)
+    }
 }
 
 fn string_field(bytes: &[u8], bit: u32, at: usize) -> Result<usize, GzipFault>
@@ -106,7 +114,11 @@ fn string_field(bytes: &[u8], bit: u32, at: usize) -> Result<usize, GzipFault>
     ensures end { result ≡ field bytes.now bit string_end at }
     ensures within { IfOk result (λ end. end ≤ length bytes.now) }
 {
-    if has_flag(byte_at(bytes, 3), bit) { string_end(bytes, at) } else { Ok(at) }
+    if has_flag(byte_at(bytes, 3), bit) {
+        string_end(bytes, at)
+    } else {
+        Ok(at)
+    }
 }
 
 fn crc_field(bytes: &[u8], at: usize) -> Result<usize, GzipFault>
@@ -114,7 +126,11 @@ fn crc_field(bytes: &[u8], at: usize) -> Result<usize, GzipFault>
     ensures end { result ≡ field bytes.now 1 crc_end at }
     ensures within { IfOk result (λ end. end ≤ length bytes.now) }
 {
-    if has_flag(byte_at(bytes, 3), 1) { crc_end(bytes, at) } else { Ok(at) }
+    if has_flag(byte_at(bytes, 3), 1) {
+        crc_end(bytes, at)
+    } else {
+        Ok(at)
+    }
 }
 
 fn fields_end(bytes: &[u8]) -> Result<usize, GzipFault>
@@ -155,7 +171,12 @@ pub fn header_end(other: GzipFault, bytes: &[u8]) -> Result<usize, GzipFault>
 
 /// Where a member ends, if its body has so many bytes behind the header.
 #[tactic(auto, unfolding(gzip_spec::specs::Headers::member_end))]
-pub fn member_end(bytes: &[u8], header: usize, taken: usize, text: &[u8]) -> Result<usize, GzipFault>
+pub fn member_end(
+    bytes: &[u8],
+    header: usize,
+    taken: usize,
+    text: &[u8],
+) -> Result<usize, GzipFault>
     requires { header ≤ length bytes.now }
     ensures end { result ≡ member_end bytes.now (header + taken) text.now }
     ensures forward { IfOk result (λ end. 0 < end) }

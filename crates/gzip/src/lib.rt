@@ -10,8 +10,8 @@ mod bodies;
 mod headers;
 
 use bodies::{Stop, member};
-use headers::tail;
 pub use gzip_spec::GzipFault;
+use headers::tail;
 use std::alloc::Global;
 
 /// Why a file gives no text. `TooLong` has the text up to where it gets too long, and `Broken` that up to the fault.

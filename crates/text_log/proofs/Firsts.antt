@@ -1,5 +1,6 @@
 -- The places where boots begin, one line after the other, and the spans that they make
-use Rattle.std.proofs.Common.{◌≡◌, ℕ, zero, suc, ◌+◌, ◌-◌, ◌<◌, ◌≤◌, Bool, true, false, cond, nat_lt, ◌&&◌, List, [], ◌∷◌}
+use Rattle.std.proofs.Common.{◌≡◌, ℕ, zero, suc, ◌+◌, ◌-◌, ◌<◌, ◌≤◌, Bool, true, false, cond, nat_lt, ◌&&◌, List, []}
+use Rattle.std.proofs.Common.{◌∷◌}
 use Rattle.std.proofs.Common.{◌++◌, length, refl, sym, ap, ◌∙◌, arith, inl, inr, append_assoc}
 use Rattle.std.proofs.Common.{append-nil, ap₂, Option}
 use Rattle.std.proofs.lemmas.Bool.{lt-ltb, le-ltb, ltb-true, and_parts, cases_lt}
@@ -16,7 +17,8 @@ below n text is_booting at =
 
 at_line : (n : ℕ) (text : List ℕ) (is_booting : Bool) (at : ℕ) → at < length text
     → firsts (suc n) text is_booting at
-    ≡ cond (begins is_booting (head_of (line_at text at))) (at ∷ below n text is_booting at) (below n text is_booting at)
+    ≡ cond (begins is_booting (head_of (line_at text at))) (at ∷ below n text is_booting at)
+    (below n text is_booting at)
 unfolding firsts below
 at_line n text is_booting at h =
     ap (λ t. cond t (cond (begins is_booting (head_of (line_at text at))) (at ∷ below n text is_booting at)
@@ -57,36 +59,40 @@ spans_more false from at places end = refl
 abbrev pub rest : List ℕ → Bool → ℕ → List ℕ
 rest text is_booting at = firsts (length text - at) text is_booting at
 
+-- and from the next line on
+abbrev pub rest_below : List ℕ → Bool → ℕ → List ℕ
+rest_below text is_booting at = rest text (is_booting_behind is_booting (head_of (line_at text at))) (next_line text at)
+
 line_more : (text : List ℕ) (is_booting : Bool) (at from : ℕ) → at < length text
     → spans from (rest text is_booting at) (length text)
     ≡ cond (begins is_booting (head_of (line_at text at)) && nat_lt from at)
-    (boot from at ∷ spans at (rest text (is_booting_behind is_booting (head_of (line_at text at))) (next_line text at))
+    (boot from at ∷ spans at (rest_below text is_booting at)
     (length text))
-    (spans from (rest text (is_booting_behind is_booting (head_of (line_at text at))) (next_line text at)) (length text))
+    (spans from (rest_below text is_booting at) (length text))
 unfolding below
 line_more text is_booting at from h =
     let more : length text - at ≡ suc (length text - at - 1) = omega arith in
     ap (λ n. spans from (firsts n text is_booting at) (length text)) more
     ∙ ap (λ places. spans from places (length text)) (at_line (length text - at - 1) text is_booting at h)
-    ∙ ap (λ places. spans from (cond (begins is_booting (head_of (line_at text at))) (at ∷ places) places) (length text))
+    ∙ ap (λ ps. spans from (cond (begins is_booting (head_of (line_at text at))) (at ∷ ps) ps) (length text))
     (enough (length text - at - 1) (length text - next_line text at) text
     (is_booting_behind is_booting (head_of (line_at text at))) (next_line text at) (omega arith) (omega arith))
     ∙ spans_more (begins is_booting (head_of (line_at text at))) from at
-    (rest text (is_booting_behind is_booting (head_of (line_at text at))) (next_line text at)) (length text)
+    (rest_below text is_booting at) (length text)
 
 -- a boot ends before this line
 pub cut_here : (text : List ℕ) (is_booting : Bool) (at from : ℕ) (done : List Boot) → at < length text
     → boots_of text ≡ done ++ spans from (rest text is_booting at) (length text)
     → (begins is_booting (head_of (line_at text at)) && nat_lt from at) ≡ true
     → boots_of text ≡ (done ++ boot from at ∷ [])
-    ++ spans at (rest text (is_booting_behind is_booting (head_of (line_at text at))) (next_line text at)) (length text)
+    ++ spans at (rest_below text is_booting at) (length text)
 cut_here text is_booting at from done h so_far cut =
-    let below = spans at (rest text (is_booting_behind is_booting (head_of (line_at text at))) (next_line text at))
-        (length text) in
+    let below = spans at (rest_below text is_booting at)
+    (length text) in
     so_far
     ∙ ap (λ more. done ++ more) (line_more text is_booting at from h
     ∙ ap (λ t. cond t (boot from at ∷ below)
-    (spans from (rest text (is_booting_behind is_booting (head_of (line_at text at))) (next_line text at)) (length text)))
+    (spans from (rest_below text is_booting at) (length text)))
     cut)
     ∙ sym (append_assoc done (boot from at ∷ []) below)
 
@@ -95,17 +101,18 @@ pub goes_on : (text : List ℕ) (is_booting : Bool) (at from : ℕ) (done : List
     → boots_of text ≡ done ++ spans from (rest text is_booting at) (length text)
     → (begins is_booting (head_of (line_at text at)) && nat_lt from at) ≡ false
     → boots_of text ≡ done
-    ++ spans from (rest text (is_booting_behind is_booting (head_of (line_at text at))) (next_line text at)) (length text)
+    ++ spans from (rest_below text is_booting at) (length text)
 goes_on text is_booting at from done h so_far cut =
     so_far
     ∙ ap (λ more. done ++ more) (line_more text is_booting at from h
     ∙ ap (λ t. cond t (boot from at
-    ∷ spans at (rest text (is_booting_behind is_booting (head_of (line_at text at))) (next_line text at)) (length text))
-    (spans from (rest text (is_booting_behind is_booting (head_of (line_at text at))) (next_line text at)) (length text)))
+    ∷ spans at (rest_below text is_booting at) (length text))
+    (spans from (rest_below text is_booting at) (length text)))
     cut)
 
 -- the same, in what the code found of the line
-pub cut_found : (text : List ℕ) (is_booting behind : Bool) (at from next : ℕ) (done now : List Boot) (head : Option Head)
+pub cut_found : (text : List ℕ) (is_booting behind : Bool) (at from next : ℕ) (done now : List Boot)
+    (head : Option Head)
     → at < length text → boots_of text ≡ done ++ spans from (rest text is_booting at) (length text)
     → head ≡ head_of (line_at text at) → behind ≡ is_booting_behind is_booting head → next ≡ next_line text at
     → (begins is_booting head && nat_lt from at) ≡ true → now ≡ done ++ boot from at ∷ []

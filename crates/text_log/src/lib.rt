@@ -3,7 +3,6 @@
 
 ghost use Rattle.std.specs.Prelude.{◌≡◌, ◌≤◌, ◌+◌, ◌↔◌, ◌&&◌, nat_lt, length, drop, IfOk, IsTrue};
 ghost use Rattle.text_log_spec.specs.Boots.{IsTextLog, begins, is_booting_behind, line_at, boot, boots_of, Joined};
-
 ghost use Rattle.text_log_spec.specs.Words.{run};
 ghost use Rattle.text_log_spec.specs.declared.Class.TheVariants.{Line};
 

@@ -1,5 +1,6 @@
 -- Whether bytes are a text log, and the boots in it
-use Rattle.std.specs.Prelude.{◌≡◌, ℕ, zero, suc, ◌+◌, ◌<◌, Bool, true, false, not, ◌&&◌, nat_lt, if◌then◌else◌, List, [], ◌∷◌, length}
+use Rattle.std.specs.Prelude.{◌≡◌, ℕ, zero, suc, ◌+◌, ◌<◌, Bool, true, false, not, nat_lt, if◌then◌else◌, List}
+use Rattle.std.specs.Prelude.{[], ◌∷◌, length}
 use Rattle.std.specs.Prelude.{take, drop, slice_index, EachIndex, Option, Some, None}
 use Rattle.text_log_spec.specs.declared.Class.TheVariants.{Line}
 use Rattle.text_log_spec.specs.declared.Head.{Head}
@@ -37,8 +38,8 @@ firsts zero text is_booting at = []
 firsts (suc n) text is_booting at =
     if nat_lt at (length text)
     then (let head = head_of (line_at text at) in
-      let below = firsts n text (is_booting_behind is_booting head) (next_line text at) in
-      if begins is_booting head then at ∷ below else below)
+    let below = firsts n text (is_booting_behind is_booting head) (next_line text at) in
+    if begins is_booting head then at ∷ below else below)
     else []
 
 abbrev pub boot : ℕ → ℕ → Boot

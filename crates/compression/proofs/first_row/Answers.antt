@@ -10,13 +10,13 @@ pub returns-then-starts_with : goal.returns-then-starts_with
 returns-then-starts_with c =
     sym (c.loop-row.invariant
     ∙ row_yes c.args.rows.now c.args.front.now c.loop-row.row-index _ c.loop-row-test.true
-    (sym c.starts_with.ensures ∙ c.if-starts_with.true))
+    (sym c.starts_with.ensures.value ∙ c.if-starts_with.true))
 
 pub loop-row-preserved : goal.loop-row-preserved
 loop-row-preserved c =
     c.loop-row.invariant
     ∙ row_no c.args.rows.now c.args.front.now c.loop-row.row-index _ c.loop-row-test.true
-    (sym c.starts_with.ensures ∙ c.if-starts_with.false)
+    (sym c.starts_with.ensures.value ∙ c.if-starts_with.false)
 
 pub returns : goal.returns
 returns c =

@@ -1,7 +1,7 @@
 -- Each byte goes on to the rest; behind the last one there is none. For `crc32`.
-use Rattle.std.proofs.Common.{◌≡◌, refl, ap, sym, ◌∙◌, arith, drop, bit_xor, ◌+◌}
+use Rattle.std.proofs.Common.{refl, ap, sym, ◌∙◌, arith, drop, bit_xor, ◌+◌}
 use Rattle.std.proofs.lemmas.List.{drop_all, drop_more}
-use Rattle.gzip_spec.specs.Crc.{crc_from, crc32, shifted}
+use Rattle.gzip_spec.specs.Crc.{crc_from, crc32}
 use Rattle.crc32.proofs.crc32.Goals as goal
 
 pub loop-byte-init : goal.loop-byte-init
@@ -19,4 +19,5 @@ unfolding crc_from crc32
 returns c =
     ap (λ k. bit_xor k 0xffffffff)
     (sym (c.loop-byte.invariant
-    ∙ ap (crc_from c.loop-byte.crc) (drop_all c.loop-byte.byte-index c.args.bytes.now (omega (arith, c.loop-byte-test.false)))))
+    ∙ ap (crc_from c.loop-byte.crc)
+    (drop_all c.loop-byte.byte-index c.args.bytes.now (omega (arith, c.loop-byte-test.false)))))

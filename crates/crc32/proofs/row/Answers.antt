@@ -1,5 +1,4 @@
 -- The table's row is what eight bits leave. For `row`.
-use Rattle.std.proofs.Common.{arith}
 use Rattle.crc32.proofs.Table.{row_is}
 use Rattle.crc32.proofs.row.Goals as goal
 

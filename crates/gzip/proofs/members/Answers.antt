@@ -1,5 +1,5 @@
 -- A member that halts ends the file, behind the last one the file ends, and any other leads on. For `members`.
-use Rattle.std.proofs.Common.{◌≡◌, ◌+◌, ◌<◌, ◌≤◌, length, length-drop, drop, arith, refl, ap}
+use Rattle.std.proofs.Common.{length-drop, drop, arith, refl}
 use Rattle.gzip_spec.specs.Headers.{header_end}
 use Rattle.gzip_spec.specs.Files.{End, Leads}
 use Rattle.gzip.specs.Goes.{Onward}
@@ -19,8 +19,8 @@ returns-in-Err c =
     halts c.args.most c.args.bytes.now c.tail-rest.result.now c.member.new.text.items
     (Leads c.args.most (header_end c.members.other c.tail-rest.result.now) c.tail-rest.result.now c.members.text.items)
     c.in-Err.stop (λ outcome leads. c.members.invariant.here (End outcome) outcome
-    (at_rest c.args.most c.members.other c.tail-rest.result.now (drop c.members.at c.args.bytes.now) c.members.text.items
-    (End outcome) c.tail-rest.ensures leads) refl)
+    (at_rest c.args.most c.members.other c.tail-rest.result.now (drop c.members.at c.args.bytes.now)
+    c.members.text.items (End outcome) c.tail-rest.ensures leads) refl)
     (stopped_at c.args.most c.tail-rest.result.now c.member.new.text.items
     (Leads c.args.most (header_end c.members.other c.tail-rest.result.now) c.tail-rest.result.now c.members.text.items)
     c.member.result c.in-Err.stop c.in-Err.is c.member.ensures)
@@ -29,8 +29,9 @@ onward : (c : In-Ok) → Onward c.args.most (drop c.members.at c.args.bytes.now)
     (Leads c.args.most (header_end c.members.other (drop c.members.at c.args.bytes.now))
     (drop c.members.at c.args.bytes.now) c.members.text.items) c.in-Ok.taken
 onward c =
-    onward_at c.args.most c.members.other c.tail-rest.result.now (drop c.members.at c.args.bytes.now) c.members.text.items
-    c.member.new.text.items c.member.result c.in-Ok.taken c.tail-rest.ensures c.in-Ok.is c.member.ensures
+    onward_at c.args.most c.members.other c.tail-rest.result.now (drop c.members.at c.args.bytes.now)
+    c.members.text.items c.member.new.text.items c.member.result c.in-Ok.taken
+    c.tail-rest.ensures c.in-Ok.is c.member.ensures
 
 pub returns-then-at-bytes : goal.returns-then-at-bytes
 returns-then-at-bytes c =

@@ -1,5 +1,5 @@
 -- What comes of the member here comes of the file. For the loop of `members`.
-use Rattle.std.proofs.Common.{◌≡◌, ◌≤◌, ◌-◌, ◌+◌, length, drop}
+use Rattle.std.proofs.Common.{◌≤◌, ◌-◌, length, drop}
 use Rattle.gzip_spec.specs.Headers.{header_end}
 use Rattle.gzip_spec.specs.Files.{Outcome, Next, Leads, Gives}
 use Rattle.gzip.specs.Goes.{Ends}

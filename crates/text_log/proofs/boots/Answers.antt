@@ -1,9 +1,10 @@
 -- A line by which a boot begins ends the one before it, any other belongs to it; the last boot ends with the text. For
 -- `boots`.
-use Rattle.std.proofs.Common.{◌≡◌, ◌+◌, ◌<◌, ◌≤◌, ◌++◌, ◌∷◌, [], length, sym, ap, subst, ◌∙◌, arith}
-use Rattle.text_log_spec.specs.Boots.{boot, next_line, is_booting_behind, begins, Joined}
+use Rattle.std.proofs.Common.{◌≡◌, ◌+◌, ◌++◌, ◌∷◌, [], length, sym, ap, subst, ◌∙◌, arith}
+use Rattle.text_log_spec.specs.Boots.{boot, begins, Joined}
 use Rattle.text_log_spec.specs.Words.{head_of}
-use Rattle.text_log.proofs.Firsts.{cut_found, on_found, last_here, none_here, from_start, joined_more, joined_none, later}
+use Rattle.text_log.proofs.Firsts.{cut_found, on_found, last_here, none_here, from_start, joined_more, joined_none}
+use Rattle.text_log.proofs.Firsts.{later}
 use Rattle.text_log.proofs.boots.Goals as goal
 use Rattle.text_log.proofs.boots.Goals.{then-from-text+in_ok-push-2, else-from-text}
 
@@ -58,6 +59,7 @@ returns-clause-joined c = elim c.if-from-text.branch [
       ∙ ap (λ b. c.lines.boots.items ++ b ∷ []) w.boot-then-from-text.ensures))
       (joined_more 0 c.lines.boots.items c.lines.from (length c.args.text.now) c.lines.invariant.joined (omega arith))
   | else-from-text w ↦ subst (λ bs. Joined 0 bs (length c.args.text.now)) (sym (ap (λ v. v.items) w.boots-is))
-      (subst (λ end. Joined 0 c.lines.boots.items end) (let e : c.lines.from ≡ length c.args.text.now = omega arith in e)
+      (subst (λ end. Joined 0 c.lines.boots.items end)
+      (let e : c.lines.from ≡ length c.args.text.now = omega arith in e)
       c.lines.invariant.joined)
 ]

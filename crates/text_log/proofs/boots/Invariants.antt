@@ -1,6 +1,6 @@
 -- The boots so far and those from here on are the boots; they are joined up to where the next one begins. For the loop
 -- of `boots`.
-use Rattle.std.proofs.Common.{◌≡◌, ◌≤◌, ◌-◌, ◌+◌, ◌++◌, length}
+use Rattle.std.proofs.Common.{◌≡◌, ◌≤◌, ◌-◌, ◌++◌, length}
 use Rattle.text_log_spec.specs.Boots.{spans, boots_of, Joined}
 use Rattle.text_log.proofs.Firsts.{rest}
 use Rattle.text_log.proofs.boots.Given as goal

@@ -33,18 +33,22 @@ returns-in-Err-TooLong c =
     c.joined-in-Err-TooLong.new.text.items c.joined-in-Err-TooLong.result c.requires.short
     (long_at c.tail-rest.result.now (drop c.args.header c.args.bytes.now) (c.args.most - c.len.result)
     (c.args.most - length c.args.text.now.items) c.inflate.result c.in-Err-TooLong.more c.tail-rest.ensures
-    (let e : c.args.most - c.len.result ≡ c.args.most - length c.args.text.now.items = omega (arith, c.len.ensures) in e)
-    (let e : c.inflate.result ≡ Err (errors.TooLong c.in-Err-TooLong.more) = cc (c.in-Err-TooLong.is, c.in-Err-TooLong.field-0-is) in e)
+    (let e : c.args.most - c.len.result ≡ c.args.most - length c.args.text.now.items
+    = omega (arith, c.len.ensures) in e)
+    (let e : c.inflate.result ≡ Err (errors.TooLong c.in-Err-TooLong.more)
+    = cc (c.in-Err-TooLong.is, c.in-Err-TooLong.field-0-is) in e)
     c.inflate.ensures.found)
     c.joined-in-Err-TooLong.ensures
 
 pub returns-in-Err-Broken : goal.returns-in-Err-Broken
 returns-in-Err-Broken c =
     let found = faulty_at c.tail-rest.result.now (drop c.args.header c.args.bytes.now) (c.args.most - c.len.result)
-        (c.args.most - length c.args.text.now.items) c.inflate.result c.in-Err-Broken.fault c.in-Err-Broken.more
-        c.tail-rest.ensures (let e : c.args.most - c.len.result ≡ c.args.most - length c.args.text.now.items = omega (arith, c.len.ensures) in e)
-        (let e : c.inflate.result ≡ Err (errors.Broken c.in-Err-Broken.fault c.in-Err-Broken.more) = cc (c.in-Err-Broken.is, c.in-Err-Broken.field-0-is) in e)
-        c.inflate.ensures.found in
+    (c.args.most - length c.args.text.now.items) c.inflate.result c.in-Err-Broken.fault c.in-Err-Broken.more
+    c.tail-rest.ensures (let e : c.args.most - c.len.result ≡ c.args.most - length c.args.text.now.items
+    = omega (arith, c.len.ensures) in e)
+    (let e : c.inflate.result ≡ Err (errors.Broken c.in-Err-Broken.fault c.in-Err-Broken.more)
+    = cc (c.in-Err-Broken.is, c.in-Err-Broken.field-0-is) in e)
+    c.inflate.ensures.found in
     faulty_goes c.args.most c.args.bytes.now c.args.header c.args.text.now.items c.in-Err-Broken.more.items
     c.joined-in-Err-Broken.new.text.items c.in-Err-Broken.fault c.joined-in-Err-Broken.result c.requires.short
     found.0 found.1 c.joined-in-Err-Broken.ensures

@@ -1,5 +1,5 @@
 -- What the words from here on say is what all of them say. For the loop of `behind_kernel`.
-use Rattle.std.proofs.Common.{◌≡◌, ◌≤◌}
+use Rattle.std.proofs.Common.{◌≡◌}
 use Rattle.text_log_spec.specs.Words.{behind_kernel}
 use Rattle.text_log.proofs.words.behind_kernel.Given as goal
 
