@@ -195,7 +195,8 @@ fewer_left level a b e f =
     let whole : length (levels_from a) ≡ length (level ∷ after level) = ap (λ o. length (levels_from o)) e in
     omega (arith, rest, whole)
 
-pub step_listed : (known : Known) (len : ℕ) (a b : Option Level) (level : Level) (c d : Candidate) (list : List ℕ) (k : ℕ)
+pub step_listed : (known : Known) (len : ℕ) (a b : Option Level) (level : Level) (c d : Candidate) (list : List ℕ)
+    (k : ℕ)
     → a ≡ Some level → b ≡ next level → d ≡ having level c (get_or list k 0) → list ≡ values level known len c
     → k < length list → Over known len (levels_from a) (IsListed known len) c
     → Over known len (levels_from b) (IsListed known len) d

@@ -66,7 +66,8 @@ loop-k-preserved t c =
           (get_or list k 0) w.walk.new.state w.next.ensures c.having-candidate.ensures w.in_ok-walk.ensures.settled in
           rw w.state-is (record {
             advances = advances_trans old.advances adv;
-            settled = one_more known image aim level c.args.c.now list k c.loop-k.state w.walk.new.state adv old.settled last;
+            settled = one_more known image aim level c.args.c.now list k c.loop-k.state w.walk.new.state adv
+                old.settled last;
             sound = w.in_ok-walk.ensures.sound;
           })
       | else-may w ↦
@@ -87,5 +88,6 @@ returns-clause-settled t c =
     let aim = c.args.aim.now in
     let s = c.loop-k.state in
     subst (λ (o : Option Level). SettledOver known image aim (levels_from o) c.args.c.now s) (sym c.in-Some.is)
-    (over_done known (length image) (TagsSettled known image aim s) c.in-Some.level c.args.c.now c.values-list.result.now
+    (over_done known (length image) (TagsSettled known image aim s) c.in-Some.level c.args.c.now
+    c.values-list.result.now
     (c.values-list.ensures known (length image) c.requires.lists) (λ j lt. c.loop-k.invariant.settled j (omega arith)))
