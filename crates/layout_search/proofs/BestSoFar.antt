@@ -1,17 +1,20 @@
 -- The best so far
 use Rattle.std.proofs.Common.{◌≡◌, ℕ, ◌+◌, ◌<◌, ◌≤◌, Bool, true, false, ◌&&◌, ◌||◌, ◌==◌, nat_lt, if◌then◌else◌, List}
 use Rattle.std.proofs.Common.{[], ◌∷◌, length, get_or, Option, Some, None, refl, sym, ap, ◌∙◌, subst, arith, true≢false}
+use Rattle.std.proofs.Common.{below_more}
 use Rattle.std.specs.Prelude.{nat_le, sum_by}
-use Rattle.std.proofs.lemmas.Bool.{and_parts, or_parts, false_from_ne_true, ltb-false, le-leb, lt-leb}
+use Rattle.std.proofs.lemmas.Bool.{and_parts, or_parts, false_from_ne_true, ltb-false, le-leb, lt-leb, eqb-false}
 use Rattle.layout_spec.specs.declared.Candidate.{Candidate}
 use Rattle.layout_spec.specs.declared.Known.{Known}
 use Rattle.layout_spec.specs.Laid.{params_of, zones_of, has_layout}
 use Rattle.layout_spec.specs.Order.{is_before, faults}
 use Rattle.layout_spec.specs.Family.{is_of_family, is_chosen, is_one_of, tags_for, known_or, parities, cpus_for, sizes}
 use Rattle.layout_spec.specs.Family.{memories, is_shape, is_told_once}
-use Rattle.layout_search.specs.Tried.{Advances, IsSettled, TagsSettled, ParitiesSettled, CpusSettled, PmsgsSettled}
-use Rattle.layout_search.specs.Tried.{FtracesSettled, ConsolesSettled, DumpsSettled, MemsSettled, is_ahead}
-use Rattle.layout_search.specs.Placed.{is_placed, is_ready, with_mem, with_dump, with_console, with_ftrace}
+use Rattle.layout_search.specs.Levels.{Over, IsListed, after, levels_from, next, values, having}
+use Rattle.layout_search.specs.declared.levels.Level.{Level}
+use Rattle.layout_search.specs.declared.levels.Level.TheVariants.{Mem, Dump, Console, Ftrace, Pmsg, Cpus, Parity}
+use Rattle.layout_search.specs.Placed.{IsPlaced, IsPassed}
+use Rattle.layout_search.specs.Tried.{Advances, IsSettled, TagsSettled, SettledOver, is_ahead}
 use Rattle.layout_search.specs.Rows.{dump_row_of, console_row_of, ftrace_row_of, pmsg_row_of}
 use Rattle.layout_search.proofs.CandidateFaults.{cpus_bad}
 use Rattle.zone_spec.specs.declared.params.Params.{Params}
@@ -21,7 +24,7 @@ use Rattle.layout_search.specs.declared.progress.Best.{Best}
 use Rattle.layout_search.specs.declared.progress.Progress.{Progress}
 use Rattle.layout_search.specs.declared.progress.Aim.{Aim}
 use Rattle.layout_search.proofs.Keys.{not_before}
-use Rattle.layout_search.proofs.Members.{place_of}
+use Rattle.layout_search.proofs.Members.{member_at, place_of}
 
 abbrev count_rows : List Row → ℕ
 count_rows rows = sum_by (λ (row : Row). row.count) rows
@@ -64,16 +67,8 @@ later p h = record {
 }
 
 pub tags_later : {known : Known} {image : List ℕ} {aim : Aim} {c : Candidate} {a b : Progress} → Advances a b
-    → TagsSettled known image aim c a → TagsSettled known image aim c b
+    → TagsSettled known image aim a c → TagsSettled known image aim b c
 tags_later p h = record { all = λ t m. later p (h.all t m) }
-
-pub parities_later : {known : Known} {image : List ℕ} {aim : Aim} {c : Candidate} {a b : Progress} → Advances a b
-    → ParitiesSettled known image aim c a → ParitiesSettled known image aim c b
-parities_later p h = record { all = λ t m. tags_later p (h.all t m) }
-
-pub cpus_later : {known : Known} {image : List ℕ} {aim : Aim} {c : Candidate} {a b : Progress} → Advances a b
-    → CpusSettled known image aim c a → CpusSettled known image aim c b
-cpus_later p h = record { all = λ t m. parities_later p (h.all t m) }
 
 -- a search that has given up has settled all
 pub given_up : (known : Known) (image : List ℕ) (aim : Aim) (c : Candidate) (s : Progress) → s.work ≡ 0
@@ -98,142 +93,141 @@ family_of known image c t chosen tag has =
 pub tags_done : (known : Known) (image : List ℕ) (aim : Aim) (c : Candidate) (s : Progress) (list : List ℕ)
     → list ≡ tags_for known image c
     → ((j : ℕ) → j < length list → IsSettled known image aim (record c { tag = get_or list j 0 }) s)
-    → TagsSettled known image aim c s
+    → TagsSettled known image aim s c
 tags_done known image aim c s list e h = record {
   all = λ t m.
       let at = place_of list t (subst (λ xs. is_one_of t xs ≡ true) (sym e) m) in
       subst (λ (t : ℕ). IsSettled known image aim (record c { tag = t }) s) at.here (h at.place at.inside);
 }
 
-pub parities_done : (known : Known) (image : List ℕ) (aim : Aim) (c : Candidate) (s : Progress) (list : List ℕ)
-    → list ≡ known_or known.parity parities
-    → ((j : ℕ) → j < length list → TagsSettled known image aim (record c { parity = get_or list j 0 }) s)
-    → ParitiesSettled known image aim c s
-parities_done known image aim c s list e h = record {
-  all = λ t m.
-      let at = place_of list t (subst (λ xs. is_one_of t xs ≡ true) (sym e) m) in
-      subst (λ (t : ℕ). TagsSettled known image aim (record c { parity = t }) s) at.here (h at.place at.inside);
+-- ---- over the words of a layout
+
+over_map : (known : Known) (len : ℕ) (P Q : Candidate → Type 0) → ((d : Candidate) → P d → Q d)
+    → (levels : List Level) (c : Candidate) → Over known len levels P c → Over known len levels Q c
+unfolding Over
+over_map known len P Q f [] c h = f c h
+over_map known len P Q f (level ∷ levels) c h = λ n m. over_map known len P Q f levels (having level c n) (h n m)
+
+over_all : (known : Known) (len : ℕ) (Q : Candidate → Type 0) → ((d : Candidate) → Q d) → (levels : List Level)
+    (c : Candidate) → Over known len levels Q c
+unfolding Over
+over_all known len Q f [] c = f c
+over_all known len Q f (level ∷ levels) c = λ n m. over_all known len Q f levels (having level c n)
+
+-- one word more
+pub over_next : (known : Known) (len : ℕ) (Q : Candidate → Type 0) (level : Level) (c : Candidate) (n : ℕ)
+    → Over known len (level ∷ after level) Q c → is_one_of n (values level known len c) ≡ true
+    → Over known len (after level) Q (having level c n)
+unfolding Over
+over_next known len Q level c n h m = h n m
+
+pub over_last : (known : Known) (len : ℕ) (Q : Candidate → Type 0) (c : Candidate) → Over known len [] Q c → Q c
+unfolding Over
+over_last known len Q c h = h
+
+pub over_none : (known : Known) (len : ℕ) (Q : Candidate → Type 0) (c : Candidate) → Q c → Over known len [] Q c
+unfolding Over
+over_none known len Q c h = h
+
+-- each value of a list
+pub over_done : (known : Known) (len : ℕ) (Q : Candidate → Type 0) (level : Level) (c : Candidate) (list : List ℕ)
+    → list ≡ values level known len c
+    → ((j : ℕ) → j < length list → Over known len (after level) Q (having level c (get_or list j 0)))
+    → Over known len (level ∷ after level) Q c
+unfolding Over
+over_done known len Q level c list e h = λ n m.
+    let at = place_of list n (subst (λ xs. is_one_of n xs ≡ true) (sym e) m) in
+    subst (λ (n : ℕ). Over known len (after level) Q (having level c n)) at.here (h at.place at.inside)
+
+pub over_later : (known : Known) (image : List ℕ) (aim : Aim) (levels : List Level) (c : Candidate) (a b : Progress)
+    → Advances a b → SettledOver known image aim levels c a → SettledOver known image aim levels c b
+over_later known image aim levels c a b p h = over_map known (length image) (TagsSettled known image aim a)
+    (TagsSettled known image aim b) (λ d. tags_later p) levels c h
+
+pub over_given_up : (known : Known) (image : List ℕ) (aim : Aim) (levels : List Level) (c : Candidate) (s : Progress)
+    → s.work ≡ 0 → SettledOver known image aim levels c s
+over_given_up known image aim levels c s e = over_all known (length image) (TagsSettled known image aim s)
+    (λ d. record { all = λ t m. given_up known image aim (record d { tag = t }) s e }) levels c
+
+pub after_next : (level : Level) → levels_from (next level) ≡ after level
+after_next Mem = refl
+after_next Dump = refl
+after_next Console = refl
+after_next Ftrace = refl
+after_next Pmsg = refl
+after_next Cpus = refl
+after_next Parity = refl
+
+-- a word that was not tried yet changes nothing of what is known
+placed_with : (known : Known) (len : ℕ) (c : Candidate) (n r : ℕ) → IsPlaced known len c
+    → IsPlaced known len (record c { cpus = n; parity = r })
+placed_with known len c n r h = record {
+  told = h.told;
+  within = h.within;
+  roomy = record {
+    mem = h.roomy.mem;
+    console = h.roomy.console;
+    ftrace = h.roomy.ftrace;
+    pmsg = h.roomy.pmsg;
+  };
 }
 
-pub cpus_done : (known : Known) (image : List ℕ) (aim : Aim) (c : Candidate) (s : Progress) (list : List ℕ)
-    → list ≡ cpus_for known c.ftrace
-    → ((j : ℕ) → j < length list → ParitiesSettled known image aim (record c { cpus = get_or list j 0 }) s)
-    → CpusSettled known image aim c s
-cpus_done known image aim c s list e h = record {
-  all = λ t m.
-      let at = place_of list t (subst (λ xs. is_one_of t xs ≡ true) (sym e) m) in
-      subst (λ (t : ℕ). ParitiesSettled known image aim (record c { cpus = t }) s) at.here (h at.place at.inside);
+pub passed_with : (level : Level) (known : Known) (len : ℕ) (c : Candidate) (n : ℕ)
+    → IsPassed (Some level) known len c → IsPassed (Some level) known len (having level c n)
+passed_with Mem known len c n h = h
+passed_with Dump known len c n h = h
+passed_with Console known len c n h = h
+passed_with Ftrace known len c n h = h
+passed_with Pmsg known len c n h = h
+passed_with Cpus known len c n h = placed_with known len c n c.parity h
+passed_with Parity known len c n h = record {
+  placed = placed_with known len c c.cpus n h.placed;
+  some = h.some;
+  few = h.few;
 }
 
-pub tags_given_up : (known : Known) (image : List ℕ) (aim : Aim) (c : Candidate) (s : Progress) → s.work ≡ 0
-    → TagsSettled known image aim c s
-tags_given_up known image aim c s e =
-    record { all = λ t m. given_up known image aim (record c { tag = t }) s e }
+-- a word more is tried
+pub fewer_left : (level : Level) (a b : Option Level) → a ≡ Some level → b ≡ next level
+    → length (levels_from b) < length (levels_from a)
+fewer_left level a b e f =
+    let rest : length (levels_from b) ≡ length (after level) =
+    ap (λ o. length (levels_from o)) f ∙ ap (length {A = Level}) (after_next level) in
+    let whole : length (levels_from a) ≡ length (level ∷ after level) = ap (λ o. length (levels_from o)) e in
+    omega (arith, rest, whole)
 
-pub parities_given_up : (known : Known) (image : List ℕ) (aim : Aim) (c : Candidate) (s : Progress) → s.work ≡ 0
-    → ParitiesSettled known image aim c s
-parities_given_up known image aim c s e =
-    record { all = λ r m. tags_given_up known image aim (record c { parity = r }) s e }
+pub step_listed : (known : Known) (len : ℕ) (a b : Option Level) (level : Level) (c d : Candidate) (list : List ℕ)
+    (k : ℕ)
+    → a ≡ Some level → b ≡ next level → d ≡ having level c (get_or list k 0) → list ≡ values level known len c
+    → k < length list → Over known len (levels_from a) (IsListed known len) c
+    → Over known len (levels_from b) (IsListed known len) d
+step_listed known len a b level c d list k ea eb ed el lt h =
+    let n = get_or list k 0 in
+    let member : is_one_of n (values level known len c) ≡ true =
+    subst (λ xs. is_one_of n xs ≡ true) el (member_at list k lt) in
+    let here : Over known len (level ∷ after level) (IsListed known len) c =
+    subst (λ (o : Option Level). Over known len (levels_from o) (IsListed known len) c) ea h in
+    let there : Over known len (after level) (IsListed known len) (having level c n) =
+    over_next known len (IsListed known len) level c n here member in
+    let at : Over known len (levels_from b) (IsListed known len) (having level c n) =
+    subst (λ ls. Over known len ls (IsListed known len) (having level c n))
+    (sym (ap (λ o. levels_from o) eb ∙ after_next level)) there in
+    subst (λ (d : Candidate). Over known len (levels_from b) (IsListed known len) d) (sym ed) at
 
-pub cpus_given_up : (known : Known) (image : List ℕ) (aim : Aim) (c : Candidate) (s : Progress) → s.work ≡ 0
-    → CpusSettled known image aim c s
-cpus_given_up known image aim c s e =
-    record { all = λ n m. parities_given_up known image aim (record c { cpus = n }) s e }
+pub step_settled : (known : Known) (image : List ℕ) (aim : Aim) (b : Option Level) (level : Level) (c d : Candidate)
+    (n : ℕ) (s : Progress) → b ≡ next level → d ≡ having level c n → SettledOver known image aim (levels_from b) d s
+    → SettledOver known image aim (after level) (having level c n) s
+step_settled known image aim b level c d n s eb ed h =
+    subst (λ (d : Candidate). SettledOver known image aim (after level) d s) ed
+    (subst (λ ls. SettledOver known image aim ls d s) (ap (λ o. levels_from o) eb ∙ after_next level) h)
 
-pub pmsgs_later : {known : Known} {image : List ℕ} {aim : Aim} {c : Candidate} {a b : Progress} → Advances a b
-    → PmsgsSettled known image aim c a → PmsgsSettled known image aim c b
-pmsgs_later p h = record { all = λ t m. cpus_later p (h.all t m) }
-
-pub pmsgs_given_up : (known : Known) (image : List ℕ) (aim : Aim) (c : Candidate) (s : Progress) → s.work ≡ 0
-    → PmsgsSettled known image aim c s
-pmsgs_given_up known image aim c s e =
-    record { all = λ n m. cpus_given_up known image aim (record c { pmsg = n }) s e }
-
-pub pmsgs_done : (known : Known) (image : List ℕ) (aim : Aim) (c : Candidate) (s : Progress) (list : List ℕ)
-    → list ≡ (known_or known.pmsg (sizes (length image)))
-    → ((j : ℕ) → j < length list → CpusSettled known image aim (record c { pmsg = get_or list j 0 }) s)
-    → PmsgsSettled known image aim c s
-pmsgs_done known image aim c s list e h = record {
-  all = λ t m.
-      let at = place_of list t (subst (λ xs. is_one_of t xs ≡ true) (sym e) m) in
-      subst (λ (t : ℕ). CpusSettled known image aim (record c { pmsg = t }) s) at.here (h at.place at.inside);
-}
-
-pub ftraces_later : {known : Known} {image : List ℕ} {aim : Aim} {c : Candidate} {a b : Progress} → Advances a b
-    → FtracesSettled known image aim c a → FtracesSettled known image aim c b
-ftraces_later p h = record { all = λ t m. pmsgs_later p (h.all t m) }
-
-pub ftraces_given_up : (known : Known) (image : List ℕ) (aim : Aim) (c : Candidate) (s : Progress) → s.work ≡ 0
-    → FtracesSettled known image aim c s
-ftraces_given_up known image aim c s e =
-    record { all = λ n m. pmsgs_given_up known image aim (record c { ftrace = n }) s e }
-
-pub ftraces_done : (known : Known) (image : List ℕ) (aim : Aim) (c : Candidate) (s : Progress) (list : List ℕ)
-    → list ≡ (known_or known.ftrace (sizes (length image)))
-    → ((j : ℕ) → j < length list → PmsgsSettled known image aim (record c { ftrace = get_or list j 0 }) s)
-    → FtracesSettled known image aim c s
-ftraces_done known image aim c s list e h = record {
-  all = λ t m.
-      let at = place_of list t (subst (λ xs. is_one_of t xs ≡ true) (sym e) m) in
-      subst (λ (t : ℕ). PmsgsSettled known image aim (record c { ftrace = t }) s) at.here (h at.place at.inside);
-}
-
-pub consoles_later : {known : Known} {image : List ℕ} {aim : Aim} {c : Candidate} {a b : Progress} → Advances a b
-    → ConsolesSettled known image aim c a → ConsolesSettled known image aim c b
-consoles_later p h = record { all = λ t m. ftraces_later p (h.all t m) }
-
-pub consoles_given_up : (known : Known) (image : List ℕ) (aim : Aim) (c : Candidate) (s : Progress) → s.work ≡ 0
-    → ConsolesSettled known image aim c s
-consoles_given_up known image aim c s e =
-    record { all = λ n m. ftraces_given_up known image aim (record c { console = n }) s e }
-
-pub consoles_done : (known : Known) (image : List ℕ) (aim : Aim) (c : Candidate) (s : Progress) (list : List ℕ)
-    → list ≡ (known_or known.console (sizes (length image)))
-    → ((j : ℕ) → j < length list → FtracesSettled known image aim (record c { console = get_or list j 0 }) s)
-    → ConsolesSettled known image aim c s
-consoles_done known image aim c s list e h = record {
-  all = λ t m.
-      let at = place_of list t (subst (λ xs. is_one_of t xs ≡ true) (sym e) m) in
-      subst (λ (t : ℕ). FtracesSettled known image aim (record c { console = t }) s) at.here (h at.place at.inside);
-}
-
-pub dumps_later : {known : Known} {image : List ℕ} {aim : Aim} {c : Candidate} {a b : Progress} → Advances a b
-    → DumpsSettled known image aim c a → DumpsSettled known image aim c b
-dumps_later p h = record { all = λ t m. consoles_later p (h.all t m) }
-
-pub dumps_given_up : (known : Known) (image : List ℕ) (aim : Aim) (c : Candidate) (s : Progress) → s.work ≡ 0
-    → DumpsSettled known image aim c s
-dumps_given_up known image aim c s e =
-    record { all = λ n m. consoles_given_up known image aim (record c { dump = n }) s e }
-
-pub dumps_done : (known : Known) (image : List ℕ) (aim : Aim) (c : Candidate) (s : Progress) (list : List ℕ)
-    → list ≡ (known_or known.dump (sizes (length image)))
-    → ((j : ℕ) → j < length list → ConsolesSettled known image aim (record c { dump = get_or list j 0 }) s)
-    → DumpsSettled known image aim c s
-dumps_done known image aim c s list e h = record {
-  all = λ t m.
-      let at = place_of list t (subst (λ xs. is_one_of t xs ≡ true) (sym e) m) in
-      subst (λ (t : ℕ). ConsolesSettled known image aim (record c { dump = t }) s) at.here (h at.place at.inside);
-}
-
-pub mems_later : {known : Known} {image : List ℕ} {aim : Aim} {c : Candidate} {a b : Progress} → Advances a b
-    → MemsSettled known image aim c a → MemsSettled known image aim c b
-mems_later p h = record { all = λ t m. dumps_later p (h.all t m) }
-
-pub mems_given_up : (known : Known) (image : List ℕ) (aim : Aim) (c : Candidate) (s : Progress) → s.work ≡ 0
-    → MemsSettled known image aim c s
-mems_given_up known image aim c s e =
-    record { all = λ n m. dumps_given_up known image aim (record c { mem = n }) s e }
-
-pub mems_done : (known : Known) (image : List ℕ) (aim : Aim) (c : Candidate) (s : Progress) (list : List ℕ)
-    → list ≡ (known_or known.mem (memories (length image)))
-    → ((j : ℕ) → j < length list → DumpsSettled known image aim (record c { mem = get_or list j 0 }) s)
-    → MemsSettled known image aim c s
-mems_done known image aim c s list e h = record {
-  all = λ t m.
-      let at = place_of list t (subst (λ xs. is_one_of t xs ≡ true) (sym e) m) in
-      subst (λ (t : ℕ). DumpsSettled known image aim (record c { mem = t }) s) at.here (h at.place at.inside);
-}
+pub one_more : (known : Known) (image : List ℕ) (aim : Aim) (level : Level) (c : Candidate) (list : List ℕ) (k : ℕ)
+    (a b : Progress) → Advances a b
+    → ((j : ℕ) → j < k → SettledOver known image aim (after level) (having level c (get_or list j 0)) a)
+    → SettledOver known image aim (after level) (having level c (get_or list k 0)) b
+    → (j : ℕ) → j < k + 1 → SettledOver known image aim (after level) (having level c (get_or list j 0)) b
+one_more known image aim level c list k a b p h last =
+    below_more (λ j. SettledOver known image aim (after level) (having level c (get_or list j 0)) b) k
+    (λ j lt. over_later known image aim (after level) (having level c (get_or list j 0)) a b p (h j lt)) last
 
 -- ---- what is not of the family is settled
 
@@ -242,41 +236,29 @@ chosen_in : (known : Known) (image : List ℕ) (c : Candidate) → is_of_family 
 unfolding is_of_family
 chosen_in known image c h = (and_parts (is_chosen known (length image) c) _ (and_parts _ (has_layout c) h).0).0
 
-placed_in : (known : Known) (image : List ℕ) (c : Candidate) → is_of_family known image c ≡ true
-    → is_placed known (length image) c ≡ true
-unfolding is_chosen is_placed
-placed_in known image c h =
-    (and_parts (is_placed known (length image) c) (is_one_of c.cpus (cpus_for known c.ftrace))
-    (and_parts _ (is_one_of c.parity (known_or known.parity parities)) (chosen_in known image c h)).0).0
+-- ((((shape && told) && within) && cpus) && parity)
+pub record AreParts (known : Known) (len : ℕ) (c : Candidate) : Type 0 where
+  pub shape : is_shape known len c ≡ true
+  pub told : is_told_once known len c ≡ true
+  pub within : nat_le c.mem len ≡ true
+  pub cpus : is_one_of c.cpus (cpus_for known c.ftrace) ≡ true
+  pub parity : is_one_of c.parity (known_or known.parity parities) ≡ true
 
-shape_in : (known : Known) (image : List ℕ) (c : Candidate) → is_of_family known image c ≡ true
-    → is_shape known (length image) c ≡ true
-unfolding is_placed
-shape_in known image c h = (and_parts (is_shape known (length image) c) (is_told_once known (length image) c)
-    (and_parts _ (nat_le c.mem (length image)) (placed_in known image c h)).0).0
-
-told_in : (known : Known) (image : List ℕ) (c : Candidate) → is_of_family known image c ≡ true
-    → is_told_once known (length image) c ≡ true
-unfolding is_placed
-told_in known image c h = (and_parts (is_shape known (length image) c) (is_told_once known (length image) c)
-    (and_parts _ (nat_le c.mem (length image)) (placed_in known image c h)).0).1
-
-within_in : (known : Known) (image : List ℕ) (c : Candidate) → is_of_family known image c ≡ true
-    → nat_le c.mem (length image) ≡ true
-unfolding is_placed
-within_in known image c h = (and_parts _ (nat_le c.mem (length image)) (placed_in known image c h)).1
-
-cpus_in : (known : Known) (image : List ℕ) (c : Candidate) → is_of_family known image c ≡ true
-    → is_one_of c.cpus (cpus_for known c.ftrace) ≡ true
+parts_in : (known : Known) (image : List ℕ) (c : Candidate) → is_of_family known image c ≡ true
+    → AreParts known (length image) c
 unfolding is_chosen
-cpus_in known image c h = (and_parts _ (is_one_of c.cpus (cpus_for known c.ftrace))
-    (and_parts _ (is_one_of c.parity (known_or known.parity parities)) (chosen_in known image c h)).0).1
-
-parity_in : (known : Known) (image : List ℕ) (c : Candidate) → is_of_family known image c ≡ true
-    → is_one_of c.parity (known_or known.parity parities) ≡ true
-unfolding is_chosen
-parity_in known image c h =
-    (and_parts _ (is_one_of c.parity (known_or known.parity parities)) (chosen_in known image c h)).1
+parts_in known image c h =
+    let len = length image in
+    let r = and_parts _ (is_one_of c.parity (known_or known.parity parities)) (chosen_in known image c h) in
+    let n = and_parts _ (is_one_of c.cpus (cpus_for known c.ftrace)) r.0 in
+    let w = and_parts _ (nat_le c.mem len) n.0 in
+    let t = and_parts (is_shape known len c) (is_told_once known len c) w.0 in record {
+      shape = t.0;
+      told = t.1;
+      within = w.1;
+      cpus = n.1;
+      parity = r.1;
+    }
 
 tag_in : (known : Known) (image : List ℕ) (c : Candidate) → is_of_family known image c ≡ true
     → is_one_of c.tag (tags_for known image c) ≡ true
@@ -288,27 +270,25 @@ tag_in known image c h = (and_parts (is_chosen known (length image) c) (is_one_o
 strange : (known : Known) (image : List ℕ) (aim : Aim) (c : Candidate) (s : Progress)
     → ((n r t : ℕ) → is_of_family known image (record c { cpus = n; parity = r; tag = t }) ≡ true
     → faults image (zones_of (record c { cpus = n; parity = r; tag = t })) ≤ aim.limit → ⊥)
-    → CpusSettled known image aim c s
-strange known image aim c s never = record {
-  all = λ n a. record {
-    all = λ r b. record {
-      all = λ t d. record { settled = λ work family few other. absurd (never n r t family few) };
-    };
-  };
+    → SettledOver known image aim (Cpus ∷ Parity ∷ []) c s
+unfolding Over
+strange known image aim c s never = λ n a r b. record {
+  all = λ t d. record { settled = λ work family few other. absurd (never n r t family few) };
 }
 
 pub not_told : (known : Known) (image : List ℕ) (aim : Aim) (c : Candidate) (s : Progress)
-    → is_told_once known (length image) c ≡ false → CpusSettled known image aim c s
-not_told known image aim c s e = strange known image aim c s
-    (λ n r t family few. absurd (true≢false (sym (told_in known image (record c { cpus = n; parity = r; tag = t }) family) ∙ e)))
+    → is_told_once known (length image) c ≡ false → SettledOver known image aim (Cpus ∷ Parity ∷ []) c s
+not_told known image aim c s e = strange known image aim c s (λ n r t family few.
+    absurd (true≢false (sym (parts_in known image (record c { cpus = n; parity = r; tag = t }) family).told ∙ e)))
 
 pub not_within : (known : Known) (image : List ℕ) (aim : Aim) (c : Candidate) (s : Progress)
-    → nat_le c.mem (length image) ≡ false → CpusSettled known image aim c s
-not_within known image aim c s e = strange known image aim c s
-    (λ n r t family few. absurd (true≢false (sym (within_in known image (record c { cpus = n; parity = r; tag = t }) family) ∙ e)))
+    → nat_le c.mem (length image) ≡ false → SettledOver known image aim (Cpus ∷ Parity ∷ []) c s
+not_within known image aim c s e = strange known image aim c s (λ n r t family few.
+    absurd (true≢false (sym (parts_in known image (record c { cpus = n; parity = r; tag = t }) family).within ∙ e)))
 
 pub without_room : (known : Known) (image : List ℕ) (aim : Aim) (c : Candidate) (s : Progress)
-    → ((n r t : ℕ) → has_layout (record c { cpus = n; parity = r; tag = t }) ≡ false) → CpusSettled known image aim c s
+    → ((n r t : ℕ) → has_layout (record c { cpus = n; parity = r; tag = t }) ≡ false)
+    → SettledOver known image aim (Cpus ∷ Parity ∷ []) c s
 without_room known image aim c s e = strange known image aim c s
     (λ n r t family few. absurd (true≢false
     (sym (family_layout known image (record c { cpus = n; parity = r; tag = t }) family) ∙ e n r t)))
@@ -326,7 +306,7 @@ few_rows c h = step (rounded c.ftrace == 0) (rounded c.pmsg == 0)
 pub bad_begin : (known : Known) (image : List ℕ) (aim : Aim) (c : Candidate) (s : Progress)
     → ((p : Params) (rest : List Row) → count_rows rest ≤ 65
     → aim.limit < faults image (zones_from p 0 (dump_row_of c ∷ console_row_of c ∷ rest)))
-    → CpusSettled known image aim c s
+    → SettledOver known image aim (Cpus ∷ Parity ∷ []) c s
 bad_begin known image aim c s far = strange known image aim c s (λ n r t family few.
     let d : Candidate = record c { cpus = n; parity = r; tag = t } in
     let good : ((d.cpus == 0) || nat_lt 64 d.cpus) ≡ false = false_from_ne_true ((d.cpus == 0) || nat_lt 64 d.cpus)
@@ -339,100 +319,71 @@ bad_begin known image aim c s far = strange known image aim c s (λ n r t family
 pub bad_rows : (known : Known) (image : List ℕ) (aim : Aim) (c : Candidate) (s : Progress)
     → ((p : Params) → aim.limit < faults image
     (zones_from p 0 (dump_row_of c ∷ console_row_of c ∷ ftrace_row_of c ∷ pmsg_row_of c ∷ [])))
-    → ParitiesSettled known image aim c s
-bad_rows known image aim c s far = record {
-  all = λ r b. record {
-    all = λ t d. record {
-      settled = λ work family few other.
-          let e : Candidate = record c { parity = r; tag = t } in
-          let h : aim.limit < faults image (zones_of e) = far (params_of e) in absurd (omega (arith, h, few));
-    };
+    → SettledOver known image aim (Parity ∷ []) c s
+unfolding Over
+bad_rows known image aim c s far = λ r b. record {
+  all = λ t d. record {
+    settled = λ work family few other.
+        let e : Candidate = record c { parity = r; tag = t } in
+        let h : aim.limit < faults image (zones_of e) = far (params_of e) in absurd (omega (arith, h, few));
   };
 }
 
 pub bad_cpus : (known : Known) (image : List ℕ) (aim : Aim) (c : Candidate) (s : Progress)
-    → ((c.cpus == 0) || nat_lt 64 c.cpus) ≡ true → ParitiesSettled known image aim c s
-bad_cpus known image aim c s bad = record {
-  all = λ r b. record {
-    all = λ t d. no_layout known image aim (record c { parity = r; tag = t }) s
-        (cpus_bad (record c { parity = r; tag = t }) bad);
-  };
+    → ((c.cpus == 0) || nat_lt 64 c.cpus) ≡ true → SettledOver known image aim (Parity ∷ []) c s
+unfolding Over
+bad_cpus known image aim c s bad = λ r b. record {
+  all = λ t d. no_layout known image aim (record c { parity = r; tag = t }) s
+      (cpus_bad (record c { parity = r; tag = t }) bad);
 }
 
--- ---- a candidate is placed step by step
+-- the first zone alone has too many faults with the marks
+pub bad_first : (known : Known) (image : List ℕ) (aim : Aim) (c : Candidate) (s : Progress)
+    → ((t : ℕ) → aim.limit < faults image (zones_of (record c { tag = t }))) → SettledOver known image aim [] c s
+unfolding Over
+bad_first known image aim c s far = record {
+  all = λ t d. record { settled = λ work family few other. absurd (omega (arith, far t, few)) };
+}
 
-pub chosen_of : (known : Known) (len : ℕ) (c : Candidate) (r : ℕ) → is_ready known len c ≡ true
-    → is_one_of r (known_or known.parity parities) ≡ true → is_chosen known len (record c { parity = r }) ≡ true
-unfolding is_chosen is_ready is_placed
-chosen_of known len c r ready parity = ap (λ b. b && is_one_of r (known_or known.parity parities)) ready ∙ parity
-
-pub ready_of : (known : Known) (len : ℕ) (c : Candidate) (n : ℕ) → is_placed known len c ≡ true
-    → is_one_of n (cpus_for known c.ftrace) ≡ true → is_ready known len (record c { cpus = n }) ≡ true
-unfolding is_ready is_placed
-ready_of known len c n placed cpus = ap (λ b. b && is_one_of n (cpus_for known c.ftrace)) placed ∙ cpus
-
-pub placed_of : (known : Known) (len : ℕ) (c : Candidate) → is_shape known len c ≡ true
-    → is_told_once known len c ≡ true → c.mem ≤ len → is_placed known len c ≡ true
-unfolding is_placed
-placed_of known len c shape told within =
-    ap (λ b. (b && is_told_once known len c) && nat_le c.mem len) shape
-    ∙ ap (λ b. b && nat_le c.mem len) told ∙ le-leb c.mem len within
+pub good_cpus : (n : ℕ) → ((n == 0) || nat_lt 64 n) ≡ false → (1 ≤ n) × (n ≤ 64)
+good_cpus n h =
+    let parts = or_parts (n == 0) (nat_lt 64 n) h in (omega (arith, eqb-false n 0 parts.0), ltb-false _ _ parts.1)
 
 -- ---- all of the family
 
+both : (a b : Bool) → a ≡ true → b ≡ true → (a && b) ≡ true
+both a b p q = ap (λ x. x && b) p ∙ q
+
+pub chosen_of : (known : Known) (len : ℕ) (c : Candidate) → IsListed known len c → IsPlaced known len c
+    → is_chosen known len c ≡ true
+unfolding is_chosen
+chosen_of known len c listed placed =
+    let r = and_parts _ (is_one_of c.parity (known_or known.parity parities)) listed in
+    let n = and_parts (is_shape known len c) (is_one_of c.cpus (cpus_for known c.ftrace)) r.0 in
+    both _ _ (both _ _ (both _ _ (both _ _ n.0 placed.told) (le-leb c.mem len placed.within)) n.1) r.1
+
+pub start_listed : (known : Known) (len : ℕ) (start : Candidate)
+    → Over known len (levels_from (Some Mem)) (IsListed known len) start
+unfolding Over
+start_listed known len start = λ m a d b o c f e p g n h r i.
+    both _ _ (both _ _ (both _ _ (both _ _ (both _ _ (both _ _ a b) c) e) g) h) i
+
 pub all_settled : (known : Known) (image : List ℕ) (aim : Aim) (start : Candidate) (s : Progress)
-    → MemsSettled known image aim start s → (c : Candidate) → IsSettled known image aim c s
+    → SettledOver known image aim (levels_from (Some Mem)) start s → (c : Candidate) → IsSettled known image aim c s
+unfolding Over
 all_settled known image aim start s h c = record {
   settled = λ work family few other.
-      let shape = shape_in known image c family in
       let len = length image in
-      let p = and_parts _ (is_one_of c.pmsg (known_or known.pmsg (sizes len))) shape in
+      let parts = parts_in known image c family in
+      let p = and_parts _ (is_one_of c.pmsg (known_or known.pmsg (sizes len))) parts.shape in
       let f = and_parts _ (is_one_of c.ftrace (known_or known.ftrace (sizes len))) p.0 in
       let o = and_parts _ (is_one_of c.console (known_or known.console (sizes len))) f.0 in
       let d = and_parts (is_one_of c.mem (known_or known.mem (memories len)))
       (is_one_of c.dump (known_or known.dump (sizes len))) o.0 in
-      let sized = ((((h.all c.mem d.0).all c.dump d.1).all c.console o.1).all c.ftrace f.1).all c.pmsg p.1 in
-      let one = ((sized.all c.cpus (cpus_in known image c family)).all c.parity (parity_in known image c family)).all
-      c.tag (tag_in known image c family) in one.settled work family few other;
+      let sized = h c.mem d.0 c.dump d.1 c.console o.1 c.ftrace f.1 c.pmsg p.1 in
+      let one = (sized c.cpus parts.cpus c.parity parts.parity).all c.tag (tag_in known image c family) in
+      one.settled work family few other;
 }
 
 pub above : (a b : ℕ) → b < a → nat_le a b ≡ false
 above a b h = lt-leb a b h
-
--- ---- one size more
-
-pub mem_next : (known : Known) (len : ℕ) (c : Candidate) (n : ℕ) → is_one_of n (known_or known.mem (memories len)) ≡ true
-    → with_mem known len (record c { mem = n }) ≡ true
-unfolding with_mem
-mem_next known len c n member = member
-
-pub dump_next : (known : Known) (len : ℕ) (c : Candidate) (n : ℕ) → with_mem known len c ≡ true
-    → is_one_of n (known_or known.dump (sizes len)) ≡ true → with_dump known len (record c { dump = n }) ≡ true
-unfolding with_mem with_dump
-dump_next known len c n so_far member = ap (λ b. b && is_one_of n (known_or known.dump (sizes len))) so_far ∙ member
-
-pub console_next : (known : Known) (len : ℕ) (c : Candidate) (n : ℕ) → with_dump known len c ≡ true
-    → is_one_of n (known_or known.console (sizes len)) ≡ true
-    → with_console known len (record c { console = n }) ≡ true
-unfolding with_mem with_dump with_console
-console_next known len c n so_far member =
-    ap (λ b. b && is_one_of n (known_or known.console (sizes len))) so_far ∙ member
-
-pub ftrace_next : (known : Known) (len : ℕ) (c : Candidate) (n : ℕ) → with_console known len c ≡ true
-    → is_one_of n (known_or known.ftrace (sizes len)) ≡ true
-    → with_ftrace known len (record c { ftrace = n }) ≡ true
-unfolding with_mem with_dump with_console with_ftrace
-ftrace_next known len c n so_far member =
-    ap (λ b. b && is_one_of n (known_or known.ftrace (sizes len))) so_far ∙ member
-
-pub pmsg_next : (known : Known) (len : ℕ) (c : Candidate) (n : ℕ) → with_ftrace known len c ≡ true
-    → is_one_of n (known_or known.pmsg (sizes len)) ≡ true → is_shape known len (record c { pmsg = n }) ≡ true
-unfolding with_mem with_dump with_console with_ftrace
-pmsg_next known len c n so_far member = ap (λ b. b && is_one_of n (known_or known.pmsg (sizes len))) so_far ∙ member
-
--- the first zone alone has too many faults with the marks
-pub bad_first : (known : Known) (image : List ℕ) (aim : Aim) (c : Candidate) (s : Progress)
-    → ((t : ℕ) → aim.limit < faults image (zones_of (record c { tag = t }))) → TagsSettled known image aim c s
-bad_first known image aim c s far = record {
-  all = λ t d. record { settled = λ work family few other. absurd (omega (arith, far t, few)) };
-}

@@ -2,6 +2,7 @@ pub mod Laid
 pub mod Looks
 pub mod Counted
 pub mod Seen
+pub mod Levels
 pub mod Tried
 pub mod Rows
 pub mod Placed

@@ -1,31 +1,31 @@
 -- What is settled of a candidate before its parity and its tag
-use Rattle.std.specs.Prelude.{◌≡◌, ℕ, Bool, ◌&&◌, nat_le}
+use Rattle.std.specs.Prelude.{◌≡◌, ℕ, ◌≤◌, true, Option, Some, None}
 use Rattle.layout_spec.specs.declared.Candidate.{Candidate}
 use Rattle.layout_spec.specs.declared.Known.{Known}
-use Rattle.layout_spec.specs.Family.{is_shape, is_told_once, is_one_of, cpus_for, known_or, memories, sizes, parities}
-use Rattle.layout_spec.specs.Family.{processors}
+use Rattle.layout_spec.specs.Family.{is_told_once, known_or, memories, sizes, parities, processors}
+use Rattle.layout_search.specs.Rows.{IsRoomy}
+use Rattle.layout_search.specs.declared.levels.Level.{Level}
+use Rattle.layout_search.specs.declared.levels.Level.TheVariants.{Cpus, Parity}
 use Rattle.layout_search.specs.declared.lists.Lists.{Lists}
 
--- its sizes are of the family, told once, and within the file
-unfoldable pub is_placed : Known → ℕ → Candidate → Bool
-is_placed known len c = is_shape known len c && is_told_once known len c && nat_le c.mem len
+-- its sizes are told once, and lie within the file and within 16 MiB
+pub record IsPlaced (known : Known) (len : ℕ) (c : Candidate) : Type 0 where
+  pub told : is_told_once known len c ≡ true
+  pub within : c.mem ≤ len
+  pub roomy : IsRoomy c
 
--- and so is its number of processors
-unfoldable pub is_ready : Known → ℕ → Candidate → Bool
-is_ready known len c = is_placed known len c && is_one_of c.cpus (cpus_for known c.ftrace)
+-- so is its number of processors
+pub record IsReady (known : Known) (len : ℕ) (c : Candidate) : Type 0 where
+  pub placed : IsPlaced known len c
+  pub some : 1 ≤ c.cpus
+  pub few : c.cpus ≤ 64
 
--- its memory is of the family, and so are its sizes, one after another
-unfoldable pub with_mem : Known → ℕ → Candidate → Bool
-with_mem known len c = is_one_of c.mem (known_or known.mem (memories len))
-
-unfoldable pub with_dump : Known → ℕ → Candidate → Bool
-with_dump known len c = with_mem known len c && is_one_of c.dump (known_or known.dump (sizes len))
-
-unfoldable pub with_console : Known → ℕ → Candidate → Bool
-with_console known len c = with_dump known len c && is_one_of c.console (known_or known.console (sizes len))
-
-unfoldable pub with_ftrace : Known → ℕ → Candidate → Bool
-with_ftrace known len c = with_console known len c && is_one_of c.ftrace (known_or known.ftrace (sizes len))
+-- what is known of a candidate before this word is tried, or the tag
+abbrev pub IsPassed : Option Level → Known → ℕ → Candidate → Type 0
+IsPassed None known len c = IsReady known len c
+IsPassed (Some Parity) known len c = IsReady known len c
+IsPassed (Some Cpus) known len c = IsPlaced known len c
+IsPassed (Some other) known len c = Unit {0}
 
 -- the lists of what each word can be
 pub record AreLists (known : Known) (len : ℕ) (l : Lists) : Type 0 where

@@ -4,8 +4,10 @@ use Rattle.layout_spec.specs.declared.Candidate.{Candidate}
 use Rattle.layout_spec.specs.declared.Known.{Known}
 use Rattle.layout_spec.specs.Laid.{zones_of}
 use Rattle.layout_spec.specs.Marks.{marks}
-use Rattle.layout_spec.specs.Family.{is_of_family, is_one_of, tags_for, known_or, parities, cpus_for, sizes, memories}
+use Rattle.layout_spec.specs.Family.{is_of_family, is_one_of, tags_for}
 use Rattle.layout_spec.specs.Order.{faults, tally_of, key, is_before}
+use Rattle.layout_search.specs.Levels.{Over}
+use Rattle.layout_search.specs.declared.levels.Level.{Level}
 use Rattle.layout_search.specs.declared.progress.Best.{Best}
 use Rattle.layout_search.specs.declared.progress.Progress.{Progress}
 use Rattle.layout_search.specs.declared.progress.Aim.{Aim}
@@ -48,39 +50,14 @@ pub record IsSettled (known : Known) (image : List ℕ) (aim : Aim) (c : Candida
   pub settled : 0 < s.work → is_of_family known image c ≡ true → faults image (zones_of c) ≤ aim.limit
       → aim.besides ≢ Some c → is_ahead (key image c) s.best ≡ false
 
--- so are the candidates with each tag, parity and number of processors of the family
-pub record TagsSettled (known : Known) (image : List ℕ) (aim : Aim) (c : Candidate) (s : Progress) : Type 0 where
+-- so is the candidate with each tag of the family
+pub record TagsSettled (known : Known) (image : List ℕ) (aim : Aim) (s : Progress) (c : Candidate) : Type 0 where
   pub all : (t : ℕ) → is_one_of t (tags_for known image c) ≡ true
       → IsSettled known image aim (record c { tag = t }) s
 
-pub record ParitiesSettled (known : Known) (image : List ℕ) (aim : Aim) (c : Candidate) (s : Progress) : Type 0 where
-  pub all : (r : ℕ) → is_one_of r (known_or known.parity parities) ≡ true
-      → TagsSettled known image aim (record c { parity = r }) s
-
-pub record CpusSettled (known : Known) (image : List ℕ) (aim : Aim) (c : Candidate) (s : Progress) : Type 0 where
-  pub all : (n : ℕ) → is_one_of n (cpus_for known c.ftrace) ≡ true
-      → ParitiesSettled known image aim (record c { cpus = n }) s
-
--- and those with each size and memory
-pub record PmsgsSettled (known : Known) (image : List ℕ) (aim : Aim) (c : Candidate) (s : Progress) : Type 0 where
-  pub all : (n : ℕ) → is_one_of n (known_or known.pmsg (sizes (length image))) ≡ true
-      → CpusSettled known image aim (record c { pmsg = n }) s
-
-pub record FtracesSettled (known : Known) (image : List ℕ) (aim : Aim) (c : Candidate) (s : Progress) : Type 0 where
-  pub all : (n : ℕ) → is_one_of n (known_or known.ftrace (sizes (length image))) ≡ true
-      → PmsgsSettled known image aim (record c { ftrace = n }) s
-
-pub record ConsolesSettled (known : Known) (image : List ℕ) (aim : Aim) (c : Candidate) (s : Progress) : Type 0 where
-  pub all : (n : ℕ) → is_one_of n (known_or known.console (sizes (length image))) ≡ true
-      → FtracesSettled known image aim (record c { console = n }) s
-
-pub record DumpsSettled (known : Known) (image : List ℕ) (aim : Aim) (c : Candidate) (s : Progress) : Type 0 where
-  pub all : (n : ℕ) → is_one_of n (known_or known.dump (sizes (length image))) ≡ true
-      → ConsolesSettled known image aim (record c { dump = n }) s
-
-pub record MemsSettled (known : Known) (image : List ℕ) (aim : Aim) (c : Candidate) (s : Progress) : Type 0 where
-  pub all : (n : ℕ) → is_one_of n (known_or known.mem (memories (length image))) ≡ true
-      → DumpsSettled known image aim (record c { mem = n }) s
+-- so are those with each value of these words, and each tag
+abbrev pub SettledOver : Known → List ℕ → Aim → List Level → Candidate → Progress → Type 0
+SettledOver known image aim levels c s = Over known (length image) levels (TagsSettled known image aim s) c
 
 -- the best has at most so many faults
 abbrev pub HasFew : ℕ → Option Best → Type 0

@@ -3,19 +3,20 @@
 
 mod counting;
 mod laying;
+mod levels;
 mod lists;
 mod looking;
 mod marks;
 mod order;
 mod peeking;
 mod progress;
+mod refusing;
 mod rows;
 mod searching;
 mod seeing;
 mod sweeping;
 mod tagging;
 mod trying;
-mod walking;
 
 pub use laying::params;
 pub use layout_spec::{Candidate, Known, Tally};

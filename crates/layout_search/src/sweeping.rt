@@ -1,182 +1,63 @@
-// All shapes of the family, one word after another.
-ghost use Rattle.std.specs.Prelude.{◌≡◌, true, length, OnOk};
+// The walk: all layouts of the family, one word after another.
+ghost use Rattle.std.specs.Prelude.{◌≡◌, length, OnOk};
 ghost use Rattle.layout_spec.specs.declared.Candidate.{Candidate as CandidateValue};
-ghost use Rattle.layout_search.specs.Placed.{with_mem, with_dump, with_console, with_ftrace, AreLists};
-ghost use Rattle.layout_search.specs.Tried.{IsAim, IsSound, Advances, IsSettled, PmsgsSettled, FtracesSettled};
-ghost use Rattle.layout_search.specs.Tried.{ConsolesSettled, DumpsSettled, MemsSettled};
+ghost use Rattle.layout_search.specs.Levels.{Over, IsListed, levels_from};
+ghost use Rattle.layout_search.specs.Placed.{IsPassed, AreLists};
+ghost use Rattle.layout_search.specs.Tried.{IsAim, IsSound, Advances, IsSettled, SettledOver};
 
+use crate::levels::{Level, having, next, values};
 use crate::lists::Lists;
 use crate::progress::{Aim, Progress};
-use crate::walking::{spend, try_shape};
+use crate::refusing::{may_hold, spend};
+use crate::tagging::try_tags;
 use layout_spec::{Candidate, Known};
 use std::alloc::{AllocError, Global};
 
-/// Tries a candidate with each pmsg size.
-fn try_pmsgs(
+/// Tries a candidate with each value of this word and of those after it, and with each tag.
+fn walk(
     alloc: Global,
     image: &[u8],
     known: &Known,
     lists: &Lists,
+    level: Option<Level>,
     aim: &Aim,
     c: &Candidate,
     state: &mut Progress,
 ) -> Result<(), AllocError>
     requires aim { IsAim image.now aim.now }
     requires lists { AreLists known.now (length image.now) lists.now }
-    requires so_far { with_ftrace known.now (length image.now) c.now ≡ true }
+    requires listed { Over known.now (length image.now) (levels_from level)
+        (IsListed known.now (length image.now)) c.now }
+    requires passed { IsPassed level known.now (length image.now) c.now }
     requires sound { IsSound known.now image.now aim.now.besides state.old.best }
     ensures advances { OnOk result (Advances state.old state.new) }
-    ensures settled { OnOk result (PmsgsSettled known.now image.now aim.now c.now state.new) }
+    ensures settled { OnOk result (SettledOver known.now image.now aim.now (levels_from level) c.now state.new) }
     ensures sound { OnOk result (IsSound known.now image.now aim.now.besides state.new.best) }
 {
-    let list = lists.pmsgs.as_slice();
+    let Some(level) = level else {
+        return try_tags(alloc, image, known, aim, c, state);
+    };
+    let list = values(lists, level, c);
     for k in 0..list.len() {
-        spend(state, 1);
+        let candidate = having(c, level, list[k]);
+        let mut looked = 1;
+        let may = may_hold(alloc, image, known, level, aim, &candidate, &mut looked)?;
+        spend(state, looked);
         if state.work == 0 {
             return Ok(());
         }
-        let candidate = Candidate {
-            pmsg: list[k],
-            ..*c
-        };
-        try_shape(
-            alloc,
-            image,
-            known,
-            &lists.cpus,
-            &lists.parities,
-            aim,
-            &candidate,
-            state,
-        )?;
-    }
-    Ok(())
-}
-
-/// Tries a candidate with each ftrace size.
-fn try_ftraces(
-    alloc: Global,
-    image: &[u8],
-    known: &Known,
-    lists: &Lists,
-    aim: &Aim,
-    c: &Candidate,
-    state: &mut Progress,
-) -> Result<(), AllocError>
-    requires aim { IsAim image.now aim.now }
-    requires lists { AreLists known.now (length image.now) lists.now }
-    requires so_far { with_console known.now (length image.now) c.now ≡ true }
-    requires sound { IsSound known.now image.now aim.now.besides state.old.best }
-    ensures advances { OnOk result (Advances state.old state.new) }
-    ensures settled { OnOk result (FtracesSettled known.now image.now aim.now c.now state.new) }
-    ensures sound { OnOk result (IsSound known.now image.now aim.now.besides state.new.best) }
-{
-    let list = lists.ftraces.as_slice();
-    for k in 0..list.len() {
-        spend(state, 1);
-        if state.work == 0 {
-            return Ok(());
+        if may {
+            walk(
+                alloc,
+                image,
+                known,
+                lists,
+                next(level),
+                aim,
+                &candidate,
+                state,
+            )?;
         }
-        let candidate = Candidate {
-            ftrace: list[k],
-            ..*c
-        };
-        try_pmsgs(alloc, image, known, lists, aim, &candidate, state)?;
-    }
-    Ok(())
-}
-
-/// Tries a candidate with each console size.
-fn try_consoles(
-    alloc: Global,
-    image: &[u8],
-    known: &Known,
-    lists: &Lists,
-    aim: &Aim,
-    c: &Candidate,
-    state: &mut Progress,
-) -> Result<(), AllocError>
-    requires aim { IsAim image.now aim.now }
-    requires lists { AreLists known.now (length image.now) lists.now }
-    requires so_far { with_dump known.now (length image.now) c.now ≡ true }
-    requires sound { IsSound known.now image.now aim.now.besides state.old.best }
-    ensures advances { OnOk result (Advances state.old state.new) }
-    ensures settled { OnOk result (ConsolesSettled known.now image.now aim.now c.now state.new) }
-    ensures sound { OnOk result (IsSound known.now image.now aim.now.besides state.new.best) }
-{
-    let list = lists.consoles.as_slice();
-    for k in 0..list.len() {
-        spend(state, 1);
-        if state.work == 0 {
-            return Ok(());
-        }
-        let candidate = Candidate {
-            console: list[k],
-            ..*c
-        };
-        try_ftraces(alloc, image, known, lists, aim, &candidate, state)?;
-    }
-    Ok(())
-}
-
-/// Tries a candidate with each size of dump zones.
-fn try_dumps(
-    alloc: Global,
-    image: &[u8],
-    known: &Known,
-    lists: &Lists,
-    aim: &Aim,
-    c: &Candidate,
-    state: &mut Progress,
-) -> Result<(), AllocError>
-    requires aim { IsAim image.now aim.now }
-    requires lists { AreLists known.now (length image.now) lists.now }
-    requires so_far { with_mem known.now (length image.now) c.now ≡ true }
-    requires sound { IsSound known.now image.now aim.now.besides state.old.best }
-    ensures advances { OnOk result (Advances state.old state.new) }
-    ensures settled { OnOk result (DumpsSettled known.now image.now aim.now c.now state.new) }
-    ensures sound { OnOk result (IsSound known.now image.now aim.now.besides state.new.best) }
-{
-    let list = lists.dumps.as_slice();
-    for k in 0..list.len() {
-        spend(state, 1);
-        if state.work == 0 {
-            return Ok(());
-        }
-        let candidate = Candidate {
-            dump: list[k],
-            ..*c
-        };
-        try_consoles(alloc, image, known, lists, aim, &candidate, state)?;
-    }
-    Ok(())
-}
-
-/// Tries a candidate with each memory.
-fn try_mems(
-    alloc: Global,
-    image: &[u8],
-    known: &Known,
-    lists: &Lists,
-    aim: &Aim,
-    c: &Candidate,
-    state: &mut Progress,
-) -> Result<(), AllocError>
-    requires aim { IsAim image.now aim.now }
-    requires lists { AreLists known.now (length image.now) lists.now }
-    requires sound { IsSound known.now image.now aim.now.besides state.old.best }
-    ensures advances { OnOk result (Advances state.old state.new) }
-    ensures settled { OnOk result (MemsSettled known.now image.now aim.now c.now state.new) }
-    ensures sound { OnOk result (IsSound known.now image.now aim.now.besides state.new.best) }
-{
-    let list = lists.mems.as_slice();
-    for k in 0..list.len() {
-        spend(state, 1);
-        if state.work == 0 {
-            return Ok(());
-        }
-        let candidate = Candidate { mem: list[k], ..*c };
-        try_dumps(alloc, image, known, lists, aim, &candidate, state)?;
     }
     Ok(())
 }
@@ -207,6 +88,15 @@ pub fn sweep(
         cpus: 1,
         tag: 0,
     };
-    try_mems(alloc, image, known, lists, aim, &start, state)?;
+    walk(
+        alloc,
+        image,
+        known,
+        lists,
+        Some(Level::Mem),
+        aim,
+        &start,
+        state,
+    )?;
     Ok(())
 }

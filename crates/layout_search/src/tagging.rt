@@ -81,7 +81,7 @@ pub fn try_tags(
     requires chosen { is_chosen known.now (length image.now) c.now ≡ true }
     requires sound { IsSound known.now image.now aim.now.besides state.old.best }
     ensures advances { OnOk result (Advances state.old state.new) }
-    ensures settled { OnOk result (TagsSettled known.now image.now aim.now c.now state.new) }
+    ensures settled { OnOk result (TagsSettled known.now image.now aim.now state.new c.now) }
     ensures sound { OnOk result (IsSound known.now image.now aim.now.besides state.new.best) }
 {
     let Some(tags) = tags(alloc, image, known, c)? else {

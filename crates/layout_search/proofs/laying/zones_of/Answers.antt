@@ -1,5 +1,5 @@
 -- The zones of a layout are the candidate's. For `zones_of`.
-use Rattle.std.proofs.Common.{◌≡◌, ◌^◌, ◌≤◌, ◌<◌, ◌∙◌, List, Ok, Err, ap, sym, subst}
+use Rattle.std.proofs.Common.{◌≡◌, ◌∙◌, List, Ok, subst}
 use Rattle.zone_spec.specs.declared.Zone.{Zone}
 use Rattle.zone_spec.specs.declared.params.Params.{Params}
 use Rattle.zone_spec.specs.Layouts.{IsLayout}
@@ -7,7 +7,7 @@ use Rattle.zone_spec.specs.Layout.{layout_of}
 use Rattle.ramoops_layout.specs.Laid.{params_of as params_in}
 use Rattle.ramoops_layout.proofs.WholeLayout.{layout_mem_small, layout_short}
 use Rattle.layout_spec.specs.Laid.{params_of}
-use Rattle.layout_search.proofs.LaidOut.{laid, faulty}
+use Rattle.layout_search.proofs.LaidOut.{laid}
 use Rattle.layout_search.proofs.laying.zones_of.Goals as goal
 
 pub returns-in-Ok : goal.returns-in-Ok

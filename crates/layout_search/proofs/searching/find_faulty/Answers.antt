@@ -1,5 +1,5 @@
 -- At the last limit, which no layout of the family exceeds, all are tried. For `find_faulty`.
-use Rattle.std.proofs.Common.{◌≡◌, ◌<◌, ◌^◌, arith}
+use Rattle.std.proofs.Common.{◌<◌, ◌^◌, arith}
 use Rattle.layout_spec.specs.Marks.{marks}
 use Rattle.layout_search.proofs.SearchAnswers.{all_first}
 use Rattle.layout_search.proofs.searching.find_faulty.Goals as goal

@@ -1,5 +1,5 @@
 -- The best so far is of the family, with its own tally and key, and nothing is lost. For the loop of `find_faulty`.
-use Rattle.std.proofs.Common.{ℕ, ◌+◌, ◌-◌, ◌^◌, ◌≤◌, ◌<◌, None}
+use Rattle.std.proofs.Common.{◌+◌, ◌-◌, ◌^◌, ◌≤◌, ◌<◌, None}
 use Rattle.layout_search.specs.Tried.{IsSound, Advances}
 use Rattle.layout_search.proofs.searching.find_faulty.Given as goal
 

@@ -1,5 +1,5 @@
 -- A search for some layout that ends with none has tried all, so there is none. For `find_some`.
-use Rattle.std.proofs.Common.{◌≡◌, ◌<◌, ◌^◌, refl, arith}
+use Rattle.std.proofs.Common.{◌<◌, ◌^◌, refl, arith}
 use Rattle.layout_spec.specs.Marks.{marks}
 use Rattle.layout_search.proofs.SearchAnswers.{all_first, nothing, some_by}
 use Rattle.layout_search.proofs.searching.find_some.Goals as goal

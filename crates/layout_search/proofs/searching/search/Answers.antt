@@ -1,6 +1,6 @@
 -- The layout that was found first and the rival that the second sweep leaves are an answer, and without a layout the
 -- family is empty. For `search`.
-use Rattle.std.proofs.Common.{◌≡◌, ◌<◌, false, Option, sym, subst, arith}
+use Rattle.std.proofs.Common.{◌<◌, Option, sym, subst, arith}
 use Rattle.std.specs.Prelude.{nat_lt}
 use Rattle.std.proofs.lemmas.Bool.{ltb-true, ltb-false}
 use Rattle.layout_spec.specs.declared.Candidate.{Candidate}

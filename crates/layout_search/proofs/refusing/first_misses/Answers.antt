@@ -11,7 +11,7 @@ use Rattle.layout_spec.specs.Marks.{fits, marks}
 use Rattle.layout_spec.specs.Order.{faults}
 use Rattle.layout_search.specs.Rows.{dump_row_of, console_row_of, ftrace_row_of, pmsg_row_of}
 use Rattle.layout_search.proofs.Bounds.{first_counts}
-use Rattle.layout_search.proofs.walking.first_misses.Goals as goal
+use Rattle.layout_search.proofs.refusing.first_misses.Goals as goal
 
 not_true : (b : Bool) → not b ≡ true → b ≡ false
 not_true true e = cc

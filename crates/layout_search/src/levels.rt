@@ -1,0 +1,67 @@
+// The words of a layout, in the order in which they are tried.
+ghost use Rattle.std.specs.Prelude.{◌≡◌, ℕ, List, IfOk};
+ghost use Rattle.layout_spec.specs.declared.Known.{Known as KnownValue};
+ghost use Rattle.layout_search.specs.Levels.{next as next_of, having as having_as, values as values_of};
+ghost use Rattle.layout_search.specs.Placed.{AreLists};
+
+use crate::lists::Lists;
+use layout_spec::Candidate;
+
+/// A word, but for the tag, which is tried last.
+#[derive(Clone, Copy)]
+pub enum Level {
+    Mem,
+    Dump,
+    Console,
+    Ftrace,
+    Pmsg,
+    Cpus,
+    Parity,
+}
+
+/// The word that is tried next.
+pub fn next(level: Level) -> Option<Level>
+    ensures { result ≡ next_of level }
+{
+    match level {
+        Level::Mem => Some(Level::Dump),
+        Level::Dump => Some(Level::Console),
+        Level::Console => Some(Level::Ftrace),
+        Level::Ftrace => Some(Level::Pmsg),
+        Level::Pmsg => Some(Level::Cpus),
+        Level::Cpus => Some(Level::Parity),
+        Level::Parity => None,
+    }
+}
+
+/// The candidate with this word.
+pub fn having(c: &Candidate, level: Level, n: u64) -> Candidate
+    ensures { result ≡ having_as level c.now n }
+{
+    match level {
+        Level::Mem => Candidate { mem: n, ..*c },
+        Level::Dump => Candidate { dump: n, ..*c },
+        Level::Console => Candidate { console: n, ..*c },
+        Level::Ftrace => Candidate { ftrace: n, ..*c },
+        Level::Pmsg => Candidate { pmsg: n, ..*c },
+        Level::Cpus => Candidate { cpus: n, ..*c },
+        Level::Parity => Candidate { parity: n, ..*c },
+    }
+}
+
+/// What a candidate's word can be.
+pub fn values<'a>(lists: &'a Lists, level: Level, c: &Candidate) -> &'a [u64]
+    ensures { (known : KnownValue) (len : ℕ) → AreLists known len lists.now
+        → result.now ≡ values_of level known len c.now }
+{
+    match level {
+        Level::Mem => &lists.mems,
+        Level::Dump => &lists.dumps,
+        Level::Console => &lists.consoles,
+        Level::Ftrace => &lists.ftraces,
+        Level::Pmsg => &lists.pmsgs,
+        Level::Cpus if c.ftrace == 0 => &[1],
+        Level::Cpus => &lists.cpus,
+        Level::Parity => &lists.parities,
+    }
+}
