@@ -1,8 +1,9 @@
 -- What zones give is what their parts give, end to end
-use Rattle.std.proofs.Common.{◌≡◌, ◌+◌, Bool, true, false, ◌||◌, List, [], ◌∷◌, ◌++◌, map, refl, ap, ◌∙◌}
-use Rattle.std.specs.Prelude.{filter, flat_map, sum_by, nat_lt, if◌then◌else◌}
+use Rattle.std.proofs.Common.{◌≡◌, ◌+◌, ◌||◌, List, [], ◌++◌, map, ap, ◌∙◌}
+use Rattle.std.specs.Prelude.{flat_map, sum_by, nat_lt, if◌then◌else◌}
 use Rattle.std.specs.List.{list_any}
 use Rattle.std.proofs.lemmas.List.Concat.{flat_map-append}
+use Rattle.std.proofs.lemmas.List.Elements.{filter-append}
 use Rattle.std.proofs.lemmas.List.Sums.{sum_by-append}
 use Rattle.std.proofs.lemmas.List.Folds.{list_any-append}
 use Rattle.zone_spec.specs.declared.Kind.{Kind}
@@ -13,14 +14,6 @@ use Rattle.zone_spec.specs.TimeLines.{read_line}
 use Rattle.zone_spec.specs.Records.{Saved, is_of, found, logs_of, dump_of, dumps_of}
 use Rattle.zone_spec.specs.Notices.{is_in}
 use Rattle.pstore_records.specs.Counts.{zones_of, readings_of, has_parity, corrected_in, bad_in}
-
-pub filter-append : {A : Type 0} (p : A → Bool) (xs ys : List A) → filter p (xs ++ ys) ≡ filter p xs ++ filter p ys
-filter-append {A = A} p [] ys = refl
-filter-append {A = A} p (x ∷ xs) ys = elim (p x) as (λ b. (if b then x ∷ filter p (xs ++ ys) else filter p (xs ++ ys))
-    ≡ (if b then x ∷ filter p xs else filter p xs) ++ filter p ys) [
-      | true ↦ ap (λ (zs : List A). x ∷ zs) (filter-append p xs ys)
-      | false ↦ filter-append p xs ys
-    ]
 
 -- the logs of a kind, and the dumps
 pub logs_of-append : (kind : Kind) (xs ys : List Saved) → logs_of kind (xs ++ ys) ≡ logs_of kind xs ++ logs_of kind ys

@@ -7,8 +7,6 @@ pub mod Merges
 pub mod Texts
 pub mod RecordFit
 pub mod UnfitLogs
-pub mod OneName
 pub mod DumpNumbers
-pub mod Given
 pub mod OwnDumpZone
 pub mod Sources

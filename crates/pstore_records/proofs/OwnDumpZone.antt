@@ -1,6 +1,6 @@
 -- Where the numbers of dump zones rise, a dump's record has its own zone alone. For `numbers_rise`, `source_in` and `stays`.
 use Rattle.std.proofs.Common.{◌≡◌, ℕ, zero, suc, ◌+◌, ◌<◌, ◌≤◌, ◌==◌, Bool, true, false, ◌&&◌, List, [], ◌∷◌, length}
-use Rattle.std.proofs.Common.{refl, sym, ap, ap₂, ◌∙◌, drop, drop-cons, get_or, add-one, subst, arith, Some}
+use Rattle.std.proofs.Common.{refl, sym, ap, ◌∙◌, drop, drop-cons, get_or, add-one, subst, arith, Some}
 use Rattle.std.specs.Prelude.{filter, slice_get, nat_le, if◌then◌else◌}
 use Rattle.std.proofs.lemmas.Bool.{and_parts, leb-true, le-leb, lt-leb}
 use Rattle.std.proofs.lemmas.Option.{slice_get_within, slice_get-get_or}
@@ -8,11 +8,9 @@ use Rattle.std.proofs.Math.ListN.{drop_of_length-le}
 use Rattle.std.specs.Option.{option_map}
 use Rattle.zone_spec.specs.declared.ZoneName.{ZoneName}
 use Rattle.zone_spec.specs.declared.Kind.TheVariants.{Dump}
-use Rattle.zone_spec.specs.declared.Name.{Name}
 use Rattle.zone_spec.specs.declared.Name.TheVariants.{Dump as DumpName}
 use Rattle.zone_spec.specs.Records.{Saved, is_of}
-use Rattle.zone_spec.specs.Notices.{is_in, notice}
-use Rattle.pstore_records.specs.Counts.{has_parity, corrected_in, bad_in, notice_with}
+use Rattle.zone_spec.specs.Notices.{is_in}
 use Rattle.pstore_records.specs.Tables.{numbers_rise}
 
 differs : (i j : ℕ) → i < j → (i == j) ≡ false
@@ -193,12 +191,3 @@ pub rise-ends : (zones : List Saved) (i least : ℕ) → length zones ≤ i
     → numbers_rise 0 zones ≡ numbers_rise least (drop i zones) → true ≡ numbers_rise 0 zones
 unfolding numbers_rise
 rise-ends zones i least past before = sym (before ∙ ap (numbers_rise least) (drop_of_length-le zones past))
-
--- ---- a notice by its counts
-
-pub notice-counted : (zones : List Saved) (name : Name) (parity : Bool) (corrected bad : ℕ)
-    → parity ≡ has_parity name zones → corrected ≡ corrected_in name zones → bad ≡ bad_in name zones
-    → notice_with parity corrected bad ≡ notice zones name
-notice-counted zones name parity corrected bad p c b =
-    ap (λ (x : Bool). notice_with x corrected bad) p
-    ∙ ap₂ (λ (x y : ℕ). notice_with (has_parity name zones) x y) c b

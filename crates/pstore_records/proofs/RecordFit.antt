@@ -3,6 +3,7 @@ use Rattle.std.proofs.Common.{◌≡◌, ℕ, Bool, true, false, ◌&&◌, List,
 use Rattle.std.specs.Prelude.{filter, slice_get}
 use Rattle.std.specs.List.{list_all}
 use Rattle.std.proofs.lemmas.List.{take-append-drop}
+use Rattle.std.proofs.lemmas.List.Elements.{filter-append}
 use Rattle.std.proofs.lemmas.List.Folds.{list_all-append}
 use Rattle.zone_spec.specs.declared.Zone.{Zone}
 use Rattle.zone_spec.specs.declared.Kind.TheVariants.{Dump}
@@ -12,7 +13,6 @@ use Rattle.zone_spec.specs.Records.{Saved, is_of}
 use Rattle.zone_spec.specs.Notices.{is_in}
 use Rattle.machine_spec.specs.Moved.{takes, fits}
 use Rattle.pstore_records.specs.Tables.{numbers_rise}
-use Rattle.pstore_records.proofs.Additive.{filter-append}
 use Rattle.pstore_records.proofs.OwnDumpZone.{in_dump, only-zone, taken-in, equals}
 
 pub fits-append : (layout : List Zone) (name : Name) (xs ys : List Saved)

@@ -1,10 +1,11 @@
 -- The sources that zones give, end to end. For the calls of `walk`.
-use Rattle.std.proofs.Common.{◌≡◌, ℕ, zero, suc, ◌+◌, ◌<◌, Bool, true, false, List, [], ◌∷◌, ◌++◌, map, length, take}
+use Rattle.std.proofs.Common.{◌≡◌, ℕ, zero, suc, ◌+◌, ◌<◌, Bool, true, false, List, [], ◌∷◌, ◌++◌, map, length, take, drop}
 use Rattle.std.proofs.Common.{refl, sym, ap, ap₂, subst, ◌∙◌, arith, append-nil, append_assoc, Option, Some, None}
-use Rattle.std.specs.Prelude.{flat_map, if◌then◌else◌, slice_get, option_to_list, IfSome}
+use Rattle.std.specs.Prelude.{filter, flat_map, if◌then◌else◌, slice_get, option_to_list, IfSome, is_some}
+use Rattle.std.specs.Option.{option_map, option_or}
 use Rattle.std.specs.List.{All, zip}
-use Rattle.std.proofs.lemmas.List.{map-append}
-use Rattle.std.proofs.lemmas.List.Elements.{All-nil, All-cons, All-append}
+use Rattle.std.proofs.lemmas.List.{map-append, take-append-drop}
+use Rattle.std.proofs.lemmas.List.Elements.{All-nil, All-cons, All-head, All-append}
 use Rattle.std.proofs.lemmas.Option.{slice_get_within}
 use Rattle.zone_spec.specs.declared.Kind.{Kind}
 use Rattle.zone_spec.specs.declared.Kind.TheVariants.{Dump, Console, Ftrace, Pmsg}
@@ -13,11 +14,12 @@ use Rattle.zone_spec.specs.declared.Name.TheVariants.{Dump as DumpName, Console 
 use Rattle.zone_spec.specs.declared.TimeLine.{TimeLine}
 use Rattle.zone_spec.specs.Reading.{ZoneReading}
 use Rattle.zone_spec.specs.TimeLines.{read_line}
-use Rattle.zone_spec.specs.Records.{Saved, Listed, is_of, found, logs_of, dump_of, dumps_of, plain}
+use Rattle.zone_spec.specs.Names.{is_name}
+use Rattle.zone_spec.specs.Records.{Saved, Listed, is_of, found, logs_of, dump_of, dumps_of, plain, first_listed}
 use Rattle.pstore_records.specs.declared.walk.Source.{Source}
 use Rattle.pstore_records.specs.Counts.{zones_of}
 use Rattle.pstore_records.specs.Tables.{numbers_rise}
-use Rattle.pstore_records.specs.Walks.{own_records, listed_in, IsCounted, AreSources}
+use Rattle.pstore_records.specs.Walks.{own_records, listed_in, IsCounted, AreSources, IsNamed, first_named}
 use Rattle.pstore_records.proofs.Additive.{dumps_of-append, logs_of-append}
 use Rattle.pstore_records.proofs.RecordFit.{own-zone}
 use Rattle.pstore_records.proofs.Steps.{item-at}
@@ -25,7 +27,7 @@ use Rattle.pstore_records.proofs.Steps.{item-at}
 pub no-sources : (zones : List Saved) → AreSources zones [] []
 no-sources zones = record { listed = refl; counted = All-nil (IsCounted zones) }
 
-sources-join : (zones : List Saved) (xs ys : List Source) (front own : List Listed) → AreSources zones xs front
+pub sources-join : (zones : List Saved) (xs ys : List Source) (front own : List Listed) → AreSources zones xs front
     → AreSources zones ys own → AreSources zones (xs ++ ys) (front ++ own)
 sources-join zones xs ys front own a b = record {
   listed = map-append (listed_in zones) xs ys ∙ ap₂ (λ (rs ss : List Listed). rs ++ ss) a.listed b.listed;
@@ -139,6 +141,89 @@ dump-source zones i s is_alone (Some d) rises at e zone = record {
   counted = All-cons (IsCounted zones) d [] (dump-counted zones i s is_alone d rises at e zone)
       (All-nil (IsCounted zones));
 }
+
+-- ---- the source of a name
+
+abbrev with_name : Name → List Listed → List Listed
+with_name name records = filter (λ (r : Listed). is_name r.name name) records
+
+first-append : (name : Name) (xs ys : List Listed)
+    → first_named name (xs ++ ys) ≡ option_or (first_named name xs) (first_named name ys)
+first-append name [] ys = refl
+first-append name (x ∷ xs) ys = elim (is_name x.name name) as (λ b.
+    first_listed (if b then x ∷ with_name name (xs ++ ys) else with_name name (xs ++ ys))
+    ≡ option_or (first_listed (if b then x ∷ with_name name xs else with_name name xs)) (first_named name ys)) [
+      | true ↦ refl
+      | false ↦ first-append name xs ys
+    ]
+
+module _ (zones : List Saved) (name : Name) where
+  -- a source in front decides, and none leaves it to what follows
+  joined : (a : Option Source) (xs ys : List Listed) → IsNamed zones a name xs
+      → option_or (option_map (listed_in zones) a) (first_named name ys) ≡ first_named name (xs ++ ys)
+  joined a xs ys named = ap (λ o. option_or o (first_named name ys)) named.listed ∙ sym (first-append name xs ys)
+
+  named-front : (s : Source) (xs ys : List Listed) → IsNamed zones (Some s) name xs
+      → IsNamed zones (Some s) name (xs ++ ys)
+  named-front s xs ys named = record { listed = joined (Some s) xs ys named; counted = named.counted }
+
+  pub named-join : (a b : Option Source) (xs ys : List Listed) → IsNamed zones a name xs → IsNamed zones b name ys
+      → IsNamed zones (option_or a b) name (xs ++ ys)
+  named-join None b xs ys named later = record {
+    listed = later.listed ∙ joined None xs ys named;
+    counted = later.counted;
+  }
+  named-join (Some s) b xs ys named later = named-front s xs ys named
+
+  pub named-none : (kind : Kind) → IsNamed zones None name (own_records kind [])
+  named-none Dump = record { listed = refl; counted = tt }
+  named-none Console = record { listed = refl; counted = tt }
+  named-none Pmsg = record { listed = refl; counted = tt }
+  named-none Ftrace = record { listed = refl; counted = tt }
+
+  pub without-source : (own : Option Source) (records : List Listed) → is_some own ≡ false
+      → IsNamed zones own name records → IsNamed zones None name records
+  without-source None records none named = named
+  without-source (Some s) records none named = cc
+
+  -- of no source, and of one, by its name
+  pub named-not : (records : List Listed) → AreSources zones [] records → IsNamed zones None name records
+  named-not records are = record { listed = ap (first_named name) are.listed; counted = tt }
+
+  pub named-one : (s : Source) (records : List Listed) → is_name s.name name ≡ true → AreSources zones (s ∷ []) records
+      → IsNamed zones (Some s) name records
+  named-one s records same are = record {
+    listed = (let own : Some (listed_in zones s) ≡ first_named name (listed_in zones s ∷ []) = rw same refl in own)
+        ∙ ap (first_named name) are.listed;
+    counted = All-head (IsCounted zones) s [] are.counted;
+  }
+
+  pub named-other : (s : Source) (records : List Listed) → is_name s.name name ≡ false
+      → AreSources zones (s ∷ []) records → IsNamed zones None name records
+  named-other s records other are = record {
+    listed = (let own : None ≡ first_named name (listed_in zones s ∷ []) = rw other refl in own)
+        ∙ ap (first_named name) are.listed;
+    counted = tt;
+  }
+
+  -- one zone more
+  pub named-more : (kind : Kind) (i : ℕ) (own : Option Source) → i < length zones
+      → ((s : Saved) → slice_get zones i ≡ Some s → IsNamed zones own name (own_records kind (s ∷ [])))
+      → IsNamed zones None name (own_records kind (take i zones))
+      → IsNamed zones own name (own_records kind (take (i + 1) zones))
+  named-more kind i own lt gives none =
+      let at = item-at zones i lt in
+      subst (IsNamed zones own name)
+      (sym (ap (own_records kind) at.more ∙ own_records-append kind (take i zones) (at.item ∷ [])))
+      (named-join None own (own_records kind (take i zones)) (own_records kind (at.item ∷ [])) none
+      (gives at.item at.here))
+
+  pub named-found : (kind : Kind) (i : ℕ) (own : Option Source) → is_some own ≡ true
+      → IsNamed zones own name (own_records kind (take i zones)) → IsNamed zones own name (own_records kind zones)
+  named-found kind i None some named = cc
+  named-found kind i (Some s) some named = subst (IsNamed zones (Some s) name)
+      (sym (own_records-append kind (take i zones) (drop i zones)) ∙ ap (own_records kind) (take-append-drop i zones))
+      (named-front s (own_records kind (take i zones)) (own_records kind (drop i zones)) named)
 
 -- ---- what is asked of the one zone is asked of all
 

@@ -1,12 +1,16 @@
 -- The listed records as the walk finds them
-use Rattle.std.specs.Prelude.{◌≡◌, ◌<◌, ℕ, List, [], ◌∷◌, length, map, slice_get, Option, Some, None}
+use Rattle.std.specs.Prelude.{◌≡◌, ◌<◌, ℕ, List, [], ◌∷◌, length, map, slice_get, Option, Some, None, IfSome}
+use Rattle.std.specs.Prelude.{filter}
+use Rattle.std.specs.Option.{option_map}
 use Rattle.std.specs.List.{All}
 use Rattle.std.specs.Borrow.{Bor}
 use Rattle.zone_spec.specs.declared.Kind.{Kind}
 use Rattle.zone_spec.specs.declared.Kind.TheVariants.{Dump, Console, Ftrace, Pmsg}
+use Rattle.zone_spec.specs.declared.Name.{Name}
+use Rattle.zone_spec.specs.Names.{is_name}
 use Rattle.zone_spec.specs.declared.Name.TheVariants.{Console as ConsoleName, Pmsg as PmsgName}
 use Rattle.zone_spec.specs.Ftrace.{merged}
-use Rattle.zone_spec.specs.Records.{Saved, Listed, dumps_of, plain, logs_of}
+use Rattle.zone_spec.specs.Records.{Saved, Listed, dumps_of, plain, logs_of, first_listed}
 use Rattle.pstore_records.specs.Counts.{zones_of}
 use Rattle.pstore_records.specs.declared.walk.Source.{Source}
 
@@ -40,3 +44,12 @@ pub record IsCounted (zones : List Saved) (source : Source) : Type 0 where
 pub record AreSources (zones : List Saved) (sources : List Source) (records : List Listed) : Type 0 where
   pub listed : map (listed_in zones) sources ≡ records
   pub counted : All (IsCounted zones) sources
+
+-- the first of these records with this name
+abbrev pub first_named : Name → List Listed → Option Listed
+first_named name records = first_listed (filter (λ (r : Listed). is_name r.name name) records)
+
+-- its source, if there is one
+pub record IsNamed (zones : List Saved) (source : Option Source) (name : Name) (records : List Listed) : Type 0 where
+  pub listed : option_map (listed_in zones) source ≡ first_named name records
+  pub counted : IfSome source (IsCounted zones)

@@ -100,7 +100,8 @@ fn content_of(alloc: Global, logs: &Logs, source: &Source<'_>) -> Result<Bytes, 
     }
 }
 
-fn held(alloc: Global, logs: &Logs, source: &Source<'_>) -> Result<HeldRecord, AllocError>
+/// The record of a source.
+pub fn held(alloc: Global, logs: &Logs, source: &Source<'_>) -> Result<HeldRecord, AllocError>
     requires { IsCounted (saved logs.now) source.now }
     ensures { IfOk result (λ r. r ≡ record_held (saved logs.now) (listed_in (saved logs.now) source.now)) }
 {

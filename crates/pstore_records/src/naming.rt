@@ -1,11 +1,18 @@
 // The texts of names.
 ghost use Rattle.std.specs.Prelude.{◌≡◌, ℕ, ◌<◌, ◌^◌, decimal, Some};
-ghost use Rattle.zone_spec.specs.Names.{IsNameOf, name_text};
+ghost use Rattle.zone_spec.specs.Names.{IsNameOf, is_name, name_text};
 ghost use Rattle.pstore_records.specs.Candidates.{IsCandidate, IsDumpCandidate};
 
 use arrayvec::ArrayString;
 use itoa::Buffer;
 use zone_spec::Name;
+
+/// Whether two names are the same.
+pub fn is_name(name: Name, other: Name) -> bool
+    ensures { result ≡ is_name name other }
+{
+    name == other
+}
 
 /// Writes the text of a name, such as `dmesg-ramoops-3.enc.z`, in at most 30 bytes (`fs/pstore/inode.c`,
 /// `pstore_mkfile`). Takes no memory.

@@ -2,7 +2,7 @@
 ghost use Rattle.std.specs.Prelude.{◌≡◌, ◌<◌, ◌≤◌, ◌^◌, [], ◌∷◌, length, decimal, slice_get, Some};
 ghost use Rattle.zone_spec.specs.declared.Zone.{Zone};
 ghost use Rattle.zone_spec.specs.Records.{Saved};
-ghost use Rattle.zone_spec.specs.Notices.{is_in, notice, notice_text};
+ghost use Rattle.zone_spec.specs.Notices.{is_in, notice_text};
 ghost use Rattle.prz_read.specs.Saving.{saved};
 ghost use Rattle.pstore_records.specs.Counts.{has_parity, corrected_in, bad_in, notice_with};
 
@@ -98,7 +98,8 @@ fn write_counts(corrected: u64, bad: u64, out: &mut ArrayString<86>)
     out.push_str(" unrecoverable blocks\n");
 }
 
-/// Writes the notice with these counts: nothing where no zone has parity.
+/// Writes the notice with these counts, in at most 86 bytes (`fs/pstore/ram_core.c`, `persistent_ram_ecc_string`):
+/// nothing where no zone has parity.
 pub fn write_counted(counts: Counts, out: &mut ArrayString<86>)
     ensures { out.new.bytes ≡ notice_with counts.has_parity counts.corrected counts.bad }
 {
@@ -107,14 +108,6 @@ pub fn write_counted(counts: Counts, out: &mut ArrayString<86>)
     } else {
         out.clear();
     }
-}
-
-/// Writes what follows the content of a record, in at most 86 bytes (`fs/pstore/ram_core.c`,
-/// `persistent_ram_ecc_string`): nothing where none of its zones has parity.
-pub fn write_notice(logs: &Logs, name: Name, out: &mut ArrayString<86>)
-    ensures { out.new.bytes ≡ notice (saved logs.now) name }
-{
-    write_counted(counts_of(logs, name), out);
 }
 
 fn digits_in(n: u64) -> u64

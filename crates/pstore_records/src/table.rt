@@ -19,7 +19,8 @@ pub struct Entry {
     pub time: Option<Time>,
 }
 
-fn table_entry(logs: &Logs, source: &Source<'_>) -> Entry
+/// The entry of a source.
+pub fn table_entry(logs: &Logs, source: &Source<'_>) -> Entry
     requires { IsCounted (saved logs.now) source.now }
     ensures { result ≡ entry_of (saved logs.now) (listed_in (saved logs.now) source.now) }
 {

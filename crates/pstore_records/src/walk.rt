@@ -5,9 +5,10 @@ ghost use Rattle.zone_spec.specs.Records.{Saved, Listed, dumps_of, plain, ftrace
 ghost use Rattle.prz_read.specs.Saving.{saved};
 ghost use Rattle.pstore_records.specs.Counts.{has_parity, corrected_in, bad_in};
 ghost use Rattle.pstore_records.specs.Tables.{numbers_rise};
-ghost use Rattle.pstore_records.specs.Walks.{AreSources, IsCounted, content_in, listed_in, own_records};
+ghost use Rattle.pstore_records.specs.Walks.{AreSources, IsCounted, IsNamed, content_in, listed_in, own_records};
 
 use crate::merging::merged_len;
+use crate::naming::is_name;
 use crate::notices::{Counts, counts_at, counts_of};
 use crate::zones::{first_log, is_kind, log_at};
 use dump_records::read_line;
@@ -115,21 +116,19 @@ fn add_own<'a>(
     Ok(())
 }
 
-/// Adds the source of the one record of all ftrace zones.
-fn add_ftrace<'a>(logs: &'a Logs, sources: &mut Vec<Source<'a>>) -> Result<(), AllocError>
-    ensures { OnOk result ((front : List Listed) → AreSources (saved logs.now) sources.old.items front
-        → AreSources (saved logs.now) sources.new.items (front ++ ftrace_of (logs_of Kind.Ftrace (saved logs.now)))) }
+/// The source of the one record of all ftrace zones.
+fn ftrace_source(logs: &Logs) -> Option<Source<'_>>
+    ensures { AreSources (saved logs.now) (option_to_list result) (ftrace_of (logs_of Kind.Ftrace (saved logs.now))) }
 {
     if first_log(logs, Kind::Ftrace).is_none() {
-        return Ok(());
+        return None;
     }
-    sources.push(Source {
+    Some(Source {
         name: Name::Ftrace,
         time: None,
         content: None,
         zone: None,
-    })?;
-    Ok(())
+    })
 }
 
 /// The sources of the listed records in order: dumps by rising number, console, pmsg, ftrace (`fs/pstore/ram.c`,
@@ -142,8 +141,48 @@ pub fn walk(alloc: Global, logs: &Logs) -> Result<Vec<Source<'_>>, AllocError>
     add_own(logs, Kind::Dump, is_alone, &mut sources)?;
     add_own(logs, Kind::Console, is_alone, &mut sources)?;
     add_own(logs, Kind::Pmsg, is_alone, &mut sources)?;
-    add_ftrace(logs, &mut sources)?;
+    if let Some(source) = ftrace_source(logs) {
+        sources.push(source)?;
+    }
     Ok(sources)
+}
+
+/// The source, if it has this name.
+fn named(source: Option<Source<'_>>, name: Name) -> Option<Source<'_>>
+    ensures { (zones : List Saved) (records : List Listed) → AreSources zones (option_to_list source.entry) records
+        → IsNamed zones result name records }
+{
+    let source = source?;
+    if is_name(source.name, name) {
+        Some(source)
+    } else {
+        None
+    }
+}
+
+/// The first source of this name that the zones of this kind make, each by itself.
+fn own_named(logs: &Logs, kind: Kind, is_alone: bool, name: Name) -> Option<Source<'_>>
+    requires { is_alone ≡ numbers_rise 0 (saved logs.now) }
+    ensures { IsNamed (saved logs.now) result name (own_records kind (saved logs.now)) }
+{
+    for i in 0..logs.len() {
+        let source = named(source_in(logs, i, kind, is_alone), name);
+        if source.is_some() {
+            return source;
+        }
+    }
+    None
+}
+
+/// The source of the listed record of this name: the first in the order of `walk`. Takes no memory.
+pub fn source_of(logs: &Logs, name: Name) -> Option<Source<'_>>
+    ensures { IsNamed (saved logs.now) result name (listed_of (saved logs.now)) }
+{
+    let is_alone = numbers_rise(logs);
+    own_named(logs, Kind::Dump, is_alone, name)
+        .or(own_named(logs, Kind::Console, is_alone, name))
+        .or(own_named(logs, Kind::Pmsg, is_alone, name))
+        .or(named(ftrace_source(logs), name))
 }
 
 /// What the zones of the record count.

@@ -15,4 +15,5 @@ pub mod Images
 pub mod Listings
 pub mod MoveTexts
 pub mod Sides
+pub mod RecordNames
 pub mod NamedRecord

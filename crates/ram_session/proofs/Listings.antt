@@ -9,7 +9,7 @@ use Rattle.zone_spec.specs.Notices.{content}
 use Rattle.zone_spec.specs.Records.{Saved, Listed, listed_of, record_of}
 use Rattle.pstore_records.specs.declared.table.Entry.{Entry}
 use Rattle.pstore_records.specs.Tables.{entry_of}
-use Rattle.pstore_records.proofs.Given.{record-name}
+use Rattle.ram_session.proofs.RecordNames.{record-name}
 use Rattle.script_spec.specs.Texts.{newline, record_text, time_text, listing, extract_text}
 use Rattle.ram_session.specs.Entries.{entry_text}
 

@@ -25,7 +25,7 @@ use Rattle.zone_spec.specs.Records.{listed_of, first_listed, record_of}
 use Rattle.zone_spec.specs.TimeLines.{read_line}
 use Rattle.prz_read.specs.Saving.{SavedLogs, AreNumbered, saved}
 use Rattle.pstore_records.specs.Candidates.{IsCandidate}
-use Rattle.pstore_records.proofs.Given.{same-name, record-name}
+use Rattle.ram_session.proofs.RecordNames.{same-name, record-name}
 use Rattle.script_spec.specs.Scripts.{named}
 use Rattle.ram_session.proofs.RecordLines.{itself, name_of}
 

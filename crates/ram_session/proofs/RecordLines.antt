@@ -16,7 +16,7 @@ use Rattle.machine_spec.specs.Erasures.{saved_logs}
 use Rattle.prz_read.specs.Saving.{SavedLogs, saved}
 use Rattle.ramoops.specs.LiveSeen.{LiveSeen}
 use Rattle.grammar_spec.specs.declared.line.Line.TheVariants.{Extract}
-use Rattle.pstore_records.proofs.Given.{same-name}
+use Rattle.ram_session.proofs.RecordNames.{same-name}
 use Rattle.script_spec.specs.Texts.{extract_text}
 use Rattle.script_spec.specs.Scripts.{store_line, named, extracts_of}
 use Rattle.script_spec.specs.declared.Cause.TheVariants.{NoRecord}

@@ -1,14 +1,20 @@
--- The content with the notice appended is that of the listed record. For `content`.
-use Rattle.std.proofs.Common.{◌≡◌, ◌++◌, ℕ, List, Some, sym, ap, ◌∙◌}
+-- The record that is held has the listed one's content and notice. For `content`.
+use Rattle.std.proofs.Common.{◌++◌, Some, refl, sym, ap, ◌∙◌}
+use Rattle.std.specs.Option.{option_map}
+use Rattle.zone_spec.specs.Notices.{content}
+use Rattle.zone_spec.specs.RecordsHeld.{RecordHeld}
 use Rattle.prz_read.specs.Saving.{saved}
-use Rattle.zone_spec.specs.Notices.{notice}
-use Rattle.pstore_records.proofs.Given.{with-notice}
 use Rattle.pstore_records.proofs.records.content.Goals as goal
 
+pub held-requires : goal.held-requires
+held-requires c = c.in-Some.ensures.counted
+
 pub returns-in-Ok : goal.returns-in-Ok
-returns-in-Ok c =
-    let noted : c.append.new.self ≡ c.in_ok-bytes.bytes ++ notice (saved c.args.logs.now) c.args.name =
-    c.in-Ok.ensures.ok ∙ ap (λ (xs : List ℕ). c.in_ok-bytes.bytes ++ xs)
-    (c.as_bytes.ensures.value ∙ c.as_str.ensures.value ∙ c.write_notice.ensures) in
-    with-notice (saved c.args.logs.now) c.args.name c.in_ok-bytes.bytes c.in_ok-bytes.ensures
-    ∙ ap (λ (xs : List ℕ). Some xs) (sym noted)
+returns-in-Ok c = ap (option_map (content (saved c.args.logs.now))) (sym c.in-Some.ensures.listed)
+    ∙ ap Some (sym (c.into_bytes.ensures ∙ ap (λ (r : RecordHeld). r.content ++ r.notice) c.in-Ok.ensures))
+
+pub returns-in-Err : goal.returns-in-Err
+returns-in-Err c = rw (← c.in-Some.ensures.listed) refl
+
+pub returns-in-None : goal.returns-in-None
+returns-in-None c = sym c.in-None.ensures.listed

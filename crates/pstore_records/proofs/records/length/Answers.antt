@@ -1,16 +1,19 @@
--- The content's length and the notice's are the length of the listed record. For `length`.
-use Rattle.std.proofs.Common.{◌≡◌, ◌+◌, ℕ, Some, length, ap, ◌∙◌}
+-- The entry of the name's source has the listed record's length. For `length`.
+use Rattle.std.proofs.Common.{Some, length, ap, ◌∙◌}
+use Rattle.std.specs.Option.{option_map}
+use Rattle.zone_spec.specs.Notices.{content}
+use Rattle.zone_spec.specs.Records.{Listed}
 use Rattle.prz_read.specs.Saving.{saved}
-use Rattle.zone_spec.specs.Notices.{notice}
-use Rattle.pstore_records.proofs.OwnDumpZone.{notice-counted}
-use Rattle.pstore_records.proofs.Given.{with-notice-length}
+use Rattle.pstore_records.specs.declared.table.Entry.{Entry}
 use Rattle.pstore_records.proofs.records.length.Goals as goal
 
+pub table_entry-requires : goal.table_entry-requires
+table_entry-requires c = c.in_ok-source.ensures.counted
+
+pub returns-in_err-source : goal.returns-in_err-source
+returns-in_err-source c = rw c.from_residual.ensures
+    (ap (option_map (λ (r : Listed). length (content (saved c.args.logs.now) r))) c.in_err-source.ensures.listed)
+
 pub returns : goal.returns
-returns c =
-    let noted : c.from.result ≡ length (notice (saved c.args.logs.now) c.args.name) =
-    c.from.ensures ∙ c.notice_len-notice.ensures.len ∙ ap length (notice-counted (saved c.args.logs.now) c.args.name
-    c.counts_of-counts.result.has_parity c.counts_of-counts.result.corrected c.counts_of-counts.result.bad
-    c.counts_of-counts.ensures.has_parity c.counts_of-counts.ensures.corrected c.counts_of-counts.ensures.bad) in
-    ap (λ (n : ℕ). Some (c.in_ok-len.len + n)) noted ∙ with-notice-length (saved c.args.logs.now)
-    c.args.name c.in_ok-len.len c.in_ok-len.ensures.len
+returns c = ap (λ (e : Entry). Some e.len) c.table_entry.ensures
+    ∙ ap (option_map (λ (r : Listed). length (content (saved c.args.logs.now) r))) c.in_ok-source.ensures.listed
