@@ -1,0 +1,3 @@
+-- Messages on the best layout, and images one after another. `tell_failure` and `run` cite them.
+mod BestLines
+mod RunSteps
