@@ -148,6 +148,7 @@ const TREE_FAULTS: [&str; 16] = [
 
 /// The numbers of the faults of a device tree whose nodes' paths are told.
 const NO_NODE: u32 = 14;
+
 const SEVERAL: u32 = 15;
 
 // The paths of the ramoops nodes, each after a space.
@@ -170,7 +171,9 @@ fn told_unsought(number: u8, lack: &str) -> anyhow::Error {
 
 // What is wrong with a device tree, by the fault's number.
 fn told_tree(path: &str, number: u32) -> anyhow::Error {
-    let what = TREE_FAULTS.get((number as usize).wrapping_sub(1)).unwrap_or(&"it");
+    let what = TREE_FAULTS
+        .get((number as usize).wrapping_sub(1))
+        .unwrap_or(&"it");
     anyhow!("{path}: {what}")
 }
 
@@ -339,7 +342,12 @@ fn said_by(matches: &ArgMatches<'_>, memory: Option<Memory>) -> Said {
     Said {
         is_as_given: matches.get_flag("mem-as-given"),
         place: match memory {
-            Some(Memory { place: Some(place), .. }) => Place::At(place),
+            Some(
+                Memory {
+                    place: Some(place),
+                    ..
+                },
+            ) => Place::At(place),
             Some(Memory { place: None, .. }) => Place::Anywhere,
             None => Place::Front,
         },

@@ -20,7 +20,7 @@ use outside::{FileLoad, Load, Sink, WriterSink};
 use region_report::Report;
 use report_colours::ColourSink;
 use report_entry::{Layouts, taken_hint};
-use report_run::{Failure, Messages, Records, report_by, tell_layout};
+use report_run::{Failure, Messages, Records, report_by, report_path, status_of, tell_layout};
 use report_tool::{Format, Known, Plan};
 use std::alloc::{AllocError, Global};
 use std::io::{IsTerminal, Read};
@@ -230,6 +230,36 @@ fn all_memories<R: Runtime, E: Sink>(
     if messages.is_lost { NOT_DONE } else { status }
 }
 
+// All images, one after another, and the status.
+fn all_paths<R: Runtime, S: Read, O: Sink, E: Sink>(
+    messages: &mut Messages<E>,
+    alloc: Global,
+    images: &mut System<R, S>,
+    asked: &report_run::Asked,
+    records: &mut Named<R>,
+    out: &mut O,
+    paths: &[String],
+) -> u8 {
+    let all = paths.len();
+    let mut failed = false;
+    for (i, path) in paths.iter().enumerate() {
+        failed = report_path(
+            alloc,
+            asked,
+            i,
+            all,
+            path,
+            images,
+            out,
+            messages,
+            records,
+            failed,
+        );
+    }
+    messages.tell_end(asked.counts && all > 1, all);
+    status_of(failed, messages.is_lost)
+}
+
 // Does what is asked of the images.
 fn all_images<R: Runtime, S: Read, E: Sink>(
     rt: &R,
@@ -246,9 +276,9 @@ fn all_images<R: Runtime, S: Read, E: Sink>(
     let mut out = WriterSink::new(io::writer(rt));
     if asked.is_coloured {
         let mut out = ColourSink::new(out);
-        report_run::run(alloc, &asked.images, paths, images, &mut out, messages, records)
+        all_paths(messages, alloc, images, &asked.images, records, &mut out, paths)
     } else {
-        report_run::run(alloc, &asked.images, paths, images, &mut out, messages, records)
+        all_paths(messages, alloc, images, &asked.images, records, &mut out, paths)
     }
 }
 
@@ -270,7 +300,7 @@ fn folder_named(alloc: Global, matches: &ArgMatches<'_>) -> Result<Option<String
 }
 
 // Reads the words, and does what they ask.
-fn run<R: Runtime, S: Read, E: Sink>(
+fn run<R: Runtime, S: Read + Drop, E: Sink>(
     rt: &R,
     messages: &mut Messages<E>,
     alloc: Global,

@@ -1,3 +1,5 @@
--- Messages on the best layout, and images one after another. `tell_failure` and `run` cite them.
+-- Messages on the best layout, reports behind the lines on a layout, and one of several images. `tell_failure`,
+-- `sought_report` and `report_path` cite them.
 mod BestLines
-mod RunSteps
+mod ReportEnds
+mod Steps

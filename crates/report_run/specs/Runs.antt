@@ -1,8 +1,6 @@
--- The run over images, one after another
-use Rattle.std.specs.Prelude.{◌≡◌, ◌⊎◌, ◌≤◌, ⊤, ℕ, ◌+◌, nat_lt, Bool, true, false, not, ◌&&◌, ◌||◌, if◌then◌else◌}
-use Rattle.std.specs.Prelude.{List, [], ◌∷◌, length, take, string_bytes, Option}
-use Rattle.std.specs.declared.string.String.{String}
-use Rattle.std.specs.declared.alloc.Global.{Global}
+-- One of several images: what comes of it
+use Rattle.std.specs.Prelude.{◌≡◌, ◌⊎◌, ◌≤◌, ⊤, ℕ, nat_lt, Bool, true, false, not, ◌&&◌, ◌||◌, if◌then◌else◌, List}
+use Rattle.std.specs.Prelude.{length, take, Option}
 use Rattle.zone_spec.specs.Numbers.{most_memory}
 use Rattle.region_report.specs.Reports.{ReportHeld}
 use Rattle.report_tool.specs.Saved.{Files, Makes, files_of}
@@ -11,20 +9,18 @@ use Rattle.report_entry.specs.declared.laying.Layouts.TheVariants.{Given, Sought
 use Rattle.report_run.specs.declared.plans.Asked.{Asked}
 use Rattle.report_run.specs.declared.failures.Failure.{Failure}
 use Rattle.report_run.specs.declared.failures.Failure.TheVariants.{Memory, Unopened, Unsaved}
-use Rattle.report_run.specs.Messages.{Seen, IsMessage, IsCounted, IsEnded}
+use Rattle.report_run.specs.Messages.{Seen, IsMessage, IsCounted}
 use Rattle.report_run.specs.Images.{IsReport, IsNoReport}
 
--- the outputs, the files that were made, and whether some image was not done
+-- the outputs, and the files that were made
 pub record State : Type 0 where
   pub out : Option (List ℕ)
   pub out_faults : ℕ
   pub errors : Seen
   pub files : Option Files
-  pub failed : Bool
 
-abbrev pub state : Option (List ℕ) → ℕ → Seen → Option Files → Bool → State
-state out out_faults errors files failed =
-    record { out = out; out_faults = out_faults; errors = errors; files = files; failed = failed }
+abbrev pub state : Option (List ℕ) → ℕ → Seen → Option Files → State
+state out out_faults errors files = record { out = out; out_faults = out_faults; errors = errors; files = files }
 
 -- how many bytes of an image are wanted
 abbrev pub most_of : Layouts → ℕ
@@ -99,35 +95,20 @@ abbrev pub IsPath : Bool → Asked → List ℕ → Option (List ℕ) → State 
 IsPath true asked path holds a b = IsDone asked path holds a b
 IsPath false asked path holds a b = IsFailed asked path holds a b
 
--- ---- all images, in order: one that failed ends nothing, and is remembered
+-- ---- one of several images: one that failed is remembered
 
--- what is told before each of several images
+-- whether it is told how many came before
 abbrev pub is_counted : Asked → ℕ → Bool
 is_counted asked all = asked.counts && nat_lt 1 all
 
-pub record IsStep (asked : Asked) (i all : ℕ) (path : List ℕ) (holds : Option (List ℕ)) (a b : State) : Type 0 where
+pub record IsStep (asked : Asked) (i all : ℕ) (path : List ℕ) (holds : Option (List ℕ)) (a b : State) (was now : Bool)
+    : Type 0 where
   pub between : Seen
   pub counted : IsCounted (is_counted asked all) i all a.errors between
   pub done : Bool
   pub is_path : IsPath done asked path holds (record a { errors = between }) b
-  pub failed : b.failed ≡ (a.failed || not done)
-
--- the images at these paths, from number i on, of so many
-unfoldable pub AreSteps : Asked → (List ℕ → ℕ → Option (List ℕ)) → ℕ → ℕ → List (String Global) → State → State → Type 0
-AreSteps asked content all i [] a b = b ≡ a
-AreSteps asked content all i (path ∷ paths) a b =
-    (m : State)
-    × IsStep asked i all (string_bytes path) (content (string_bytes path) (most_of asked.layouts)) a m
-    × AreSteps asked content all (i + 1) paths m b
+  pub failed : now ≡ (was || not done)
 
 -- the status is 0 if all was done, and standard error took every line
 abbrev pub status_of : Bool → Bool → ℕ
 status_of failed is_lost = if failed || is_lost then 1 else 0
-
--- the whole run: `a` before the first image, and `b` at its end, where a line tells the number
-pub record Runs (asked : Asked) (content : List ℕ → ℕ → Option (List ℕ)) (paths : List (String Global)) (a b : State)
-    (status : ℕ) : Type 0 where
-  pub last : Seen
-  pub steps : AreSteps asked content (length paths) 0 paths a (record b { errors = last })
-  pub ended : IsEnded (is_counted asked (length paths)) (length paths) last b.errors
-  pub status_is : status ≡ status_of b.failed b.errors.is_lost

@@ -1,5 +1,5 @@
-//! The run of `oopsreport` over images: what is given to standard output and to standard error, and which files are made,
-//! image by image, and the status. The images, the two outputs and the folder are the caller's.
+//! One image of `oopsreport` after another: what is given to standard output and to standard error, which files are made,
+//! and the status. The images, the two outputs and the folder are the caller's.
 #![tactic(auto)]
 
 mod failures;
@@ -12,4 +12,4 @@ pub use failures::Failure;
 pub use images::{report_by, tell_layout};
 pub use messages::Messages;
 pub use plans::{Asked, dressed};
-pub use running::{Images, Records, run};
+pub use running::{Images, Records, report_path, status_of};

@@ -1,9 +1,9 @@
 // The images, one after another.
-ghost use Rattle.std.specs.Prelude.{◌≡◌, ℕ, Bool, List, Option, IfOk, IfErr, MatchResult, false};
+ghost use Rattle.std.specs.Prelude.{◌≡◌, ℕ, not, ◌||◌, List, Option, IfOk, IfErr, MatchResult};
 ghost use Rattle.report_tool.specs.Saved.{Files, Makes, files_of};
 ghost use Rattle.report_run.specs.Messages.{seen};
 ghost use Rattle.report_run.specs.Runs.{state, most_of, IsUnopened, IsKeptBack, MakesSome, IsDone, IsUndone, IsPath};
-ghost use Rattle.report_run.specs.Runs.{IsStep, Runs};
+ghost use Rattle.report_run.specs.Runs.{is_counted, IsStep, status_of};
 
 use crate::failures::Failure;
 use crate::images::report_image;
@@ -65,10 +65,10 @@ fn one_image<I: Images, O: Sink, E: Sink, F: Records>(
 ) -> Result<(), Failure>
     ensures done { let before = state (O.given out.old) (O.faults out.old)
         (seen (E.given messages.old.errors) (E.faults messages.old.errors) messages.old.is_lost)
-        (F.made records.old) false in
+        (F.made records.old) in
         let after = state (O.given out.new) (O.faults out.new)
         (seen (E.given messages.new.errors) (E.faults messages.new.errors) messages.new.is_lost)
-        (F.made records.new) false in
+        (F.made records.new) in
         let holds = I.content images.old path.now (most_of asked.now.layouts) in
         MatchResult result (λ _. IsDone asked.now path.now holds before after)
         (IsUndone asked.now path.now holds before after) }
@@ -94,10 +94,10 @@ fn one_path<I: Images, O: Sink, E: Sink, F: Records>(
 ) -> bool
     ensures done { let before = state (O.given out.old) (O.faults out.old)
         (seen (E.given messages.old.errors) (E.faults messages.old.errors) messages.old.is_lost)
-        (F.made records.old) false in
+        (F.made records.old) in
         let after = state (O.given out.new) (O.faults out.new)
         (seen (E.given messages.new.errors) (E.faults messages.new.errors) messages.new.is_lost)
-        (F.made records.new) false in
+        (F.made records.new) in
         let holds = I.content images.old path.now (most_of asked.now.layouts) in
         IsPath result asked.now path.now holds before after }
     ensures same { I.content images.new ≡ I.content images.old }
@@ -111,11 +111,25 @@ fn one_path<I: Images, O: Sink, E: Sink, F: Records>(
     }
 }
 
-// One image of several, and whether all was done so far.
-fn next_path<I: Images, O: Sink, E: Sink, F: Records>(
+fn is_counted(asked: &Asked, all: usize) -> bool
+    ensures { result ≡ is_counted asked.now all }
+{
+    asked.counts && all > 1
+}
+
+fn has_failed(failed: bool, done: bool) -> bool
+    ensures { result ≡ (failed || not done) }
+{
+    failed || !done
+}
+
+/// One image of `all`, of which `i` came before: its report, its records saved, if that is asked for, and the message on
+/// what went wrong. Answers whether some image failed so far, `failed` whether one did before.
+pub fn report_path<I: Images, O: Sink, E: Sink, F: Records>(
     alloc: Global,
     asked: &Asked,
-    place: (usize, usize),
+    i: usize,
+    all: usize,
     path: &str,
     images: &mut I,
     out: &mut O,
@@ -124,55 +138,21 @@ fn next_path<I: Images, O: Sink, E: Sink, F: Records>(
     failed: bool,
 ) -> bool
     ensures step { let before = state (O.given out.old) (O.faults out.old)
-        (seen (E.given messages.old.errors) (E.faults messages.old.errors) messages.old.is_lost)
-        (F.made records.old) failed in
+        (seen (E.given messages.old.errors) (E.faults messages.old.errors) messages.old.is_lost) (F.made records.old) in
         let after = state (O.given out.new) (O.faults out.new)
-        (seen (E.given messages.new.errors) (E.faults messages.new.errors) messages.new.is_lost)
-        (F.made records.new) result in
+        (seen (E.given messages.new.errors) (E.faults messages.new.errors) messages.new.is_lost) (F.made records.new) in
         let holds = I.content images.old path.now (most_of asked.now.layouts) in
-        IsStep asked.now place.0 place.1 path.now holds before after }
+        IsStep asked.now i all path.now holds before after failed result }
     ensures same { I.content images.new ≡ I.content images.old }
 {
-    messages.tell_count(asked.counts && place.1 > 1, place.0, place.1);
+    messages.tell_count(is_counted(asked, all), i, all);
     let done = one_path(alloc, asked, path, images, out, messages, records);
-    failed || !done
+    has_failed(failed, done)
 }
 
-/// Reports the images at these paths, one after another, and saves their records, if that is asked for. One that fails
-/// is told on standard error, and ends nothing. Answers the exit status: 0 if all was done, and 1 if an image was not
-/// reported, a record not saved, or something of a line on standard error lost.
-pub fn run<I: Images, O: Sink, E: Sink, F: Records>(
-    alloc: Global,
-    asked: &Asked,
-    paths: &[String],
-    images: &mut I,
-    out: &mut O,
-    messages: &mut Messages<E>,
-    records: &mut F,
-) -> u8
-    ensures runs { let before = state (O.given out.old) (O.faults out.old)
-        (seen (E.given messages.old.errors) (E.faults messages.old.errors) messages.old.is_lost)
-        (F.made records.old) false in
-        (failed : Bool) × (let after = state (O.given out.new) (O.faults out.new)
-        (seen (E.given messages.new.errors) (E.faults messages.new.errors) messages.new.is_lost)
-        (F.made records.new) failed in
-        Runs asked.now (I.content images.old) paths.now before after result) }
+/// The exit status: 0 if all images were done, and 1 if one failed, or something of a line on standard error was lost.
+pub fn status_of(failed: bool, is_lost: bool) -> u8
+    ensures { result ≡ status_of failed is_lost }
 {
-    let all = paths.len();
-    let mut failed = false;
-    for i in 0..all {
-        failed = next_path(
-            alloc,
-            asked,
-            (i, all),
-            &paths[i],
-            images,
-            out,
-            messages,
-            records,
-            failed,
-        );
-    }
-    messages.tell_end(asked.counts && all > 1, all);
-    if failed || messages.is_lost { 1 } else { 0 }
+    if failed || is_lost { 1 } else { 0 }
 }
