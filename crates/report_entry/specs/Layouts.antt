@@ -1,6 +1,6 @@
 -- How words and a device tree lay an image out, and why they do not
-use Rattle.std.specs.Prelude.{◌≡◌, ◌⊎◌, ℕ, Bool, true, false, if◌then◌else◌, List, [], ◌∷◌, codes, length, ◌==◌, is_some}
-use Rattle.std.specs.Prelude.{Option, Some, None, Ok, Err}
+use Rattle.std.specs.Prelude.{◌≡◌, ◌⊎◌, ℕ, Bool, true, false, if◌then◌else◌, List, [], ◌∷◌, codes, length}
+use Rattle.std.specs.Prelude.{◌==◌, is_some, Option, Some, None, Ok, Err}
 use Rattle.std.specs.Result.{IsOk}
 use Rattle.std.specs.declared.string.String.{String}
 use Rattle.std.specs.declared.alloc.Global.{Global}

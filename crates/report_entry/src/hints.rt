@@ -189,8 +189,8 @@ fn untried_line(alloc: Global, whole: bool) -> Result<String, AllocError>
     Ok(text)
 }
 
-/// The lines on a layout that is taken: its words, whether others were not tried, and the words of another that explains
-/// the image as well. `name` stands for the path of the image, which has `size` bytes.
+/// The lines on a layout that is taken: its words, whether others were not tried, and the words of another that
+/// explains the image as well. `name` stands for the path of the image, which has `size` bytes.
 pub fn taken_hint(alloc: Global, name: &str, size: u64, found: &Found) -> Result<String, AllocError>
     ensures { IfOk result (λ text. IsTakenHint name.now size found.now (string_bytes text)) }
 {

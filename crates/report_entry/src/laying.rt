@@ -64,8 +64,8 @@ fn unsought(words: &[String]) -> Option<u8>
     None
 }
 
-/// What words say of a layout that is looked for in so much memory, if that is known, or the first fault. Of the layouts
-/// that are looked through are blocks of 128 bytes and one parity, so keys that say otherwise are refused.
+/// What words say of a layout that is looked for in so much memory, if that is known, or the first fault. The layouts
+/// that are looked through have blocks of 128 bytes and one parity, so keys that say otherwise are refused.
 fn sought(words: &[String], mem: Option<u64>) -> Result<Known, NoLayouts>
     ensures { MatchResult result (IsKnown words.now mem) (IsNotSought words.now) }
 {

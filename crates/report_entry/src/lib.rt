@@ -1,6 +1,6 @@
-//! How images are laid out, by words and a device tree, and which layout is taken that an image shows: decided once, for
-//! the calls for C, the page's export and the program `oopsreport`. And the report of an image in memory, for the first
-//! two.
+//! How images are laid out, by words and a device tree, and which layout is taken that an image shows: decided once,
+//! for the calls for C, the page's export and the program `oopsreport`. And the report of an image in memory, for the
+//! first two.
 #![tactic(auto)]
 
 mod answers;

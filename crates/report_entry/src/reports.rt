@@ -3,7 +3,8 @@ ghost use Rattle.std.specs.Prelude.{◌≡◌, IfOk, MatchResult};
 ghost use Rattle.report_entry.specs.declared.reports.Refusal.TheVariants.{Memory};
 ghost use Rattle.report_entry.specs.Memory.{image_bytes};
 ghost use Rattle.report_entry.specs.Reports.{IsUntaken, IsTakenPlan, IsPlanFound, IsNotTaken, IsFoundPlan, IsNotFound};
-ghost use Rattle.report_entry.specs.Reports.{IsPlanOf, IsNotPlanned, IsReportBy, IsNotReportedBy, IsReportOf, IsRefused};
+ghost use Rattle.report_entry.specs.Reports.{IsPlanOf, IsNotPlanned, IsReportBy, IsNotReportedBy, IsReportOf};
+ghost use Rattle.report_entry.specs.Reports.{IsRefused};
 
 use crate::hints::{best_hint, taken_hint};
 use crate::laying::{Layouts, NoLayouts, layout_by};

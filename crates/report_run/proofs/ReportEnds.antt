@@ -10,12 +10,13 @@ use Rattle.report_tool.specs.declared.showing.Format.TheVariants.{Text, Json, Ht
 use Rattle.report_tool.specs.Images.{IsReported}
 use Rattle.report_entry.specs.declared.reports.HintedPlan.{HintedPlan}
 use Rattle.report_entry.specs.declared.laying.Layouts.{Layouts}
-use Rattle.report_entry.specs.declared.laying.Layouts.TheVariants.{Given, Sought}
+use Rattle.report_entry.specs.declared.laying.Layouts.TheVariants.{Given}
 use Rattle.report_run.specs.declared.plans.Asked.{Asked}
 use Rattle.report_run.specs.declared.failures.Failure.{Failure}
 use Rattle.report_run.specs.Messages.{Seen}
 use Rattle.report_run.specs.Plans.{IsAskedPlan}
-use Rattle.report_run.specs.Images.{TellsLayout, IsNotTold, IsStopped, IsSoughtReport, IsNoSoughtReport, IsReport, IsNoReport}
+use Rattle.report_run.specs.Images.{TellsLayout, IsNotTold, IsStopped, IsSoughtReport, IsNoSoughtReport, IsReport}
+use Rattle.report_run.specs.Images.{IsNoReport}
 
 -- lines that were told raised no count of faults
 settled : (format : Format) (lines : List ℕ) (given now : Option (List ℕ)) (before after : ℕ) (a b : Seen)

@@ -1,5 +1,5 @@
-//! One image of `oopsreport` after another: what is given to standard output and to standard error, which files are made,
-//! and the status. The images, the two outputs and the folder are the caller's.
+//! One image of `oopsreport` after another: what is given to standard output and to standard error, which files are
+//! made, and the status. The images, the two outputs and the folder are the caller's.
 #![tactic(auto)]
 
 mod failures;

@@ -128,7 +128,10 @@ impl<E: Sink> Messages<E> {
             Failure::Unwritten => self.tell_line(path, "standard output could not be written"),
             Failure::Short { has, needed } => self.tell_short(path, *has, *needed),
             Failure::NotFound => {
-                self.tell_line(path, "no layout was found; give it by --param, --cmdline or --dtb");
+                self.tell_line(
+                    path,
+                    "no layout was found; give it by --param, --cmdline or --dtb",
+                );
             }
             Failure::Unexplained(best) => {
                 self.tell_best(

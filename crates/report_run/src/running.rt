@@ -123,8 +123,8 @@ fn has_failed(failed: bool, done: bool) -> bool
     failed || !done
 }
 
-/// One image of `all`, of which `i` came before: its report, its records saved, if that is asked for, and the message on
-/// what went wrong. Answers whether some image failed so far, `failed` whether one did before.
+/// One image of `all`, of which `i` came before: its report, its records saved, if that is asked for, and the message
+/// on what went wrong. `failed` says whether one failed before; the answer, whether one did so far.
 pub fn report_path<I: Images, O: Sink, E: Sink, F: Records>(
     alloc: Global,
     asked: &Asked,

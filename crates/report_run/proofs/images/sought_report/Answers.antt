@@ -1,5 +1,5 @@
 -- The lines on the layout fail, or the report follows them.
-use Rattle.std.proofs.Common.{rules, subst, sym, List, ℕ}
+use Rattle.std.proofs.Common.{rules, subst, List, ℕ}
 use Rattle.report_run.specs.Messages.{seen}
 use Rattle.report_run.specs.Images.{TellsLayout, IsNoSoughtReport}
 use Rattle.report_run.proofs.ReportEnds.{behind_lines, untold}
