@@ -20,7 +20,7 @@ use outside::{FileLoad, Load, Sink, WriterSink};
 use region_report::Report;
 use report_colours::ColourSink;
 use report_entry::{Layouts, taken_hint};
-use report_run::{Failure, Messages, Records, report_by, report_path, status_of, tell_layout};
+use report_run::{Failure, Messages, Records, report_by, status_of, tell_layout};
 use report_tool::{Format, Known, Plan};
 use std::alloc::{AllocError, Global};
 use std::io::{IsTerminal, Read};
@@ -241,21 +241,7 @@ fn all_paths<R: Runtime, S: Read, O: Sink, E: Sink>(
     paths: &[String],
 ) -> u8 {
     let all = paths.len();
-    let mut failed = false;
-    for (i, path) in paths.iter().enumerate() {
-        failed = report_path(
-            alloc,
-            asked,
-            i,
-            all,
-            path,
-            images,
-            out,
-            messages,
-            records,
-            failed,
-        );
-    }
+    let failed = report_run::run(alloc, asked, paths, images, out, messages, records);
     messages.tell_end(asked.counts && all > 1, all);
     status_of(failed, messages.is_lost)
 }
@@ -276,9 +262,25 @@ fn all_images<R: Runtime, S: Read, E: Sink>(
     let mut out = WriterSink::new(io::writer(rt));
     if asked.is_coloured {
         let mut out = ColourSink::new(out);
-        all_paths(messages, alloc, images, &asked.images, records, &mut out, paths)
+        all_paths(
+            messages,
+            alloc,
+            images,
+            &asked.images,
+            records,
+            &mut out,
+            paths,
+        )
     } else {
-        all_paths(messages, alloc, images, &asked.images, records, &mut out, paths)
+        all_paths(
+            messages,
+            alloc,
+            images,
+            &asked.images,
+            records,
+            &mut out,
+            paths,
+        )
     }
 }
 

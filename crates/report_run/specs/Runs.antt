@@ -1,6 +1,8 @@
--- One of several images: what comes of it
+-- The run over images, one after another
 use Rattle.std.specs.Prelude.{◌≡◌, ◌⊎◌, ◌≤◌, ⊤, ℕ, nat_lt, Bool, true, false, not, ◌&&◌, ◌||◌, if◌then◌else◌, List}
-use Rattle.std.specs.Prelude.{length, take, Option}
+use Rattle.std.specs.Prelude.{length, take, Option, ◌+◌, [], ◌∷◌, string_bytes}
+use Rattle.std.specs.declared.string.String.{String}
+use Rattle.std.specs.declared.alloc.Global.{Global}
 use Rattle.zone_spec.specs.Numbers.{most_memory}
 use Rattle.region_report.specs.Reports.{ReportHeld}
 use Rattle.report_tool.specs.Saved.{Files, Makes, files_of}
@@ -112,3 +114,12 @@ pub record IsStep (asked : Asked) (i all : ℕ) (path : List ℕ) (holds : Optio
 -- the status is 0 if all was done, and standard error took every line
 abbrev pub status_of : Bool → Bool → ℕ
 status_of failed is_lost = if failed || is_lost then 1 else 0
+
+-- the images at these paths, from number i on, of so many
+unfoldable pub AreSteps : Asked → (List ℕ → ℕ → Option (List ℕ)) → ℕ → ℕ → List (String Global) → State → Bool → State
+    → Bool → Type 0
+AreSteps asked content all i [] a was b now = (b ≡ a) × (now ≡ was)
+AreSteps asked content all i (path ∷ paths) a was b now =
+    (m : State) × (failed : Bool)
+    × IsStep asked i all (string_bytes path) (content (string_bytes path) (most_of asked.layouts)) a m was failed
+    × AreSteps asked content all (i + 1) paths m failed b now

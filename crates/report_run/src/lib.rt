@@ -12,4 +12,4 @@ pub use failures::Failure;
 pub use images::{report_by, tell_layout};
 pub use messages::Messages;
 pub use plans::{Asked, dressed};
-pub use running::{Images, Records, report_path, status_of};
+pub use running::{Images, Records, run, status_of};

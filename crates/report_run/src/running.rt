@@ -1,9 +1,9 @@
 // The images, one after another.
-ghost use Rattle.std.specs.Prelude.{◌≡◌, ℕ, not, ◌||◌, List, Option, IfOk, IfErr, MatchResult};
+ghost use Rattle.std.specs.Prelude.{◌≡◌, ℕ, not, ◌||◌, List, Option, IfOk, IfErr, MatchResult, false, length};
 ghost use Rattle.report_tool.specs.Saved.{Files, Makes, files_of};
 ghost use Rattle.report_run.specs.Messages.{seen};
 ghost use Rattle.report_run.specs.Runs.{state, most_of, IsUnopened, IsKeptBack, MakesSome, IsDone, IsUndone, IsPath};
-ghost use Rattle.report_run.specs.Runs.{is_counted, IsStep, status_of};
+ghost use Rattle.report_run.specs.Runs.{is_counted, IsStep, AreSteps, status_of};
 
 use crate::failures::Failure;
 use crate::images::report_image;
@@ -123,9 +123,9 @@ fn has_failed(failed: bool, done: bool) -> bool
     failed || !done
 }
 
-/// One image of `all`, of which `i` came before: its report, its records saved, if that is asked for, and the message
-/// on what went wrong. `failed` says whether one failed before; the answer, whether one did so far.
-pub fn report_path<I: Images, O: Sink, E: Sink, F: Records>(
+// One image of `all`, of which `i` came before: its report, its records saved, if that is asked for, and the message
+// on what went wrong. `failed` says whether one failed before; the answer, whether one did so far.
+fn report_path<I: Images, O: Sink, E: Sink, F: Records>(
     alloc: Global,
     asked: &Asked,
     i: usize,
@@ -155,4 +155,39 @@ pub fn status_of(failed: bool, is_lost: bool) -> u8
     ensures { result ≡ status_of failed is_lost }
 {
     if failed || is_lost { 1 } else { 0 }
+}
+
+/// Reports the images at these paths, one after another, and saves their records, if that is asked for. One that fails
+/// is told on standard error, and ends nothing. Answers whether some image failed.
+pub fn run<I: Images, O: Sink, E: Sink, F: Records>(
+    alloc: Global,
+    asked: &Asked,
+    paths: &[String],
+    images: &mut I,
+    out: &mut O,
+    messages: &mut Messages<E>,
+    records: &mut F,
+) -> bool
+    ensures { let before = state (O.given out.old) (O.faults out.old)
+        (seen (E.given messages.old.errors) (E.faults messages.old.errors) messages.old.is_lost) (F.made records.old) in
+        let after = state (O.given out.new) (O.faults out.new)
+        (seen (E.given messages.new.errors) (E.faults messages.new.errors) messages.new.is_lost) (F.made records.new) in
+        AreSteps asked.now (I.content images.old) (length paths.now) 0 paths.now before false after result }
+{
+    let mut failed = false;
+    for i in 0..paths.len() {
+        failed = report_path(
+            alloc,
+            asked,
+            i,
+            paths.len(),
+            &paths[i],
+            images,
+            out,
+            messages,
+            records,
+            failed,
+        );
+    }
+    failed
 }
