@@ -1,12 +1,16 @@
 // A folder of the system in which records are saved.
 ghost use Rattle.std.specs.Prelude.{None};
+ghost use Rattle.report_run.specs.Runs.{IsKeptBack};
 
+use anyhow::{Context, Result, anyhow};
 use outside::Failed;
-use report_tool::Folder;
+use region_report::Report;
+use report_run::{Failure, Records};
+use report_tool::{Folder, save};
 use std::alloc::Global;
 use std::fs::{File, OpenFile};
 use std::io::{ErrorKind, Write};
-use std::rt::Files;
+use std::rt::{Files, Runtime};
 use std::{fs, io};
 
 /// How many names are tried for a file of its own.
@@ -14,7 +18,7 @@ const NAMES: u32 = 100;
 
 /// A folder by its path, and what went wrong last.
 #[derive(Drop)]
-pub struct Dir<R: Files> {
+struct Dir<R: Files> {
     rt: R,
     alloc: Global,
     path: String,
@@ -24,7 +28,7 @@ pub struct Dir<R: Files> {
 
 impl<R: Files + Drop> Dir<R> {
     /// The folder is made if it is missing.
-    pub fn new(rt: R, alloc: Global, path: &str) -> io::Result<Dir<R>> {
+    fn new(rt: R, alloc: Global, path: &str) -> io::Result<Dir<R>> {
         fs::create_dir_all(&rt, path)?;
         Ok(Dir {
             rt,
@@ -36,7 +40,7 @@ impl<R: Files + Drop> Dir<R> {
     }
 
     /// Why the last file was not made.
-    pub fn error(&self) -> Option<&io::Error> {
+    fn error(&self) -> Option<&io::Error> {
         self.error.as_ref()
     }
 }
@@ -115,6 +119,56 @@ impl<R: Files + Drop> Folder for Dir<R> {
                 self.faults = self.faults.saturating_add(1);
                 Err(Failed)
             }
+        }
+    }
+}
+
+// Makes the files of a report's records.
+fn save_in<R: Runtime>(rt: &R, alloc: Global, folder: &str, report: &Report) -> Result<()> {
+    let mut dir = Dir::new(rt.clone()?, alloc, folder).context(format_args!("{folder}"))?;
+    match save(&mut dir, report) {
+        Ok(()) => Ok(()),
+        Err(_) => match dir.error() {
+            Some(e) => Err(anyhow!("a record was not saved in {folder}: {e}")),
+            None => Err(anyhow!("a record was not saved in {folder}")),
+        },
+    }
+}
+
+// Why records were not saved.
+fn unsaved(alloc: Global, error: &anyhow::Error) -> Failure
+    ensures { IsKeptBack result }
+{
+    match format!(in alloc; "{error:#}") {
+        Ok(why) => Failure::Unsaved(why),
+        Err(_) => Failure::Memory,
+    }
+}
+
+/// The folder that the words name, if they name one. It is made when records are saved.
+#[derive(Drop)]
+pub struct Named<R: Runtime> {
+    rt: R,
+    alloc: Global,
+    folder: Option<String>,
+}
+
+impl<R: Runtime> Named<R> {
+    pub fn new(rt: R, alloc: Global, folder: Option<String>) -> Named<R> {
+        Named { rt, alloc, folder }
+    }
+}
+
+impl<R: Runtime> Records for Named<R> {
+    ghost made = { λ _. None };
+
+    fn save(&mut self, report: &Report) -> Result<(), Failure> {
+        let Some(folder) = &self.folder else {
+            return Ok(());
+        };
+        match save_in(&self.rt, self.alloc, folder, report) {
+            Ok(()) => Ok(()),
+            Err(error) => Err(unsaved(self.alloc, &error)),
         }
     }
 }

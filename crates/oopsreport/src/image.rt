@@ -1,6 +1,10 @@
 // Images as the system has them: a file, or what comes one byte after the other.
+ghost use Rattle.std.specs.Prelude.{◌≡◌, ◌+◌, length, None};
+ghost use Rattle.report_run.specs.Runs.{IsUnopened};
+
 use anyhow::{Result, bail};
-use outside::{Bytes, Calls, FileLoad, MemStore};
+use outside::{Failed, FileLoad, Load};
+use report_run::{Failure, Images};
 use std::alloc::Global;
 use std::fs;
 use std::io::{self, ErrorKind, Read};
@@ -9,11 +13,70 @@ use std::rt::Runtime;
 /// How many bytes are asked for at a time.
 const PIECE: usize = 65_536;
 
-/// An image, opened.
-pub enum Image<R: Runtime> {
+/// What an image is read from.
+#[derive(Drop)]
+enum Kind<R: Runtime> {
     File(FileLoad<R>),
     /// Of standard input or a device: its front.
-    Front(MemStore),
+    Front(Vec<u8>),
+}
+
+/// An image, opened. It tells no content.
+#[derive(Drop)]
+pub struct Image<R: Runtime> {
+    kind: Kind<R>,
+    faults: u64,
+}
+
+// Copies the bytes from a place on.
+fn copy_from(bytes: &[u8], at: u64, into: &mut [u8]) -> Result<(), Failed> {
+    let Ok(at) = usize::try_from(at) else {
+        return Err(Failed);
+    };
+    let Some(end) = at.checked_add(into.len()) else {
+        return Err(Failed);
+    };
+    match bytes.get(at..end) {
+        Some(part) => {
+            into.copy_from_slice(part);
+            Ok(())
+        }
+        None => Err(Failed),
+    }
+}
+
+impl<R: Runtime> Load for Image<R> {
+    ghost holds = { λ _. None };
+
+    ghost faults = { λ s. s.faults };
+
+    ghost writes = { λ _. 0 };
+
+    ghost read_faults = { λ s. s.faults };
+
+    ghost held_bytes = { λ _. tt };
+
+    fn size(&mut self) -> Result<u64, Failed> {
+        let size = match &mut self.kind {
+            Kind::File(file) => file.size(),
+            Kind::Front(bytes) => Ok(bytes.len() as u64),
+        };
+        if size.is_err() {
+            self.faults = self.faults.saturating_add(1);
+        }
+        size
+    }
+
+    fn read_at(&mut self, at: u64, into: &mut [u8]) -> Result<(), Failed> {
+        let read = match &mut self.kind {
+            Kind::File(file) => file.read_at(at, into),
+            Kind::Front(bytes) => copy_from(bytes, at, into),
+        };
+        if read.is_err() {
+            self.faults = self.faults.saturating_add(1);
+        }
+        read
+    }
 }
 
 // The first bytes that a reader gives, at most so many.
@@ -36,33 +99,62 @@ fn front_of<F: Read>(alloc: Global, reader: &mut F, most: usize) -> io::Result<V
     Ok(front)
 }
 
-fn in_memory<F: Read>(alloc: Global, reader: &mut F, most: u32) -> Result<MemStore> {
-    let front = Bytes::from_vec(front_of(alloc, reader, most as usize)?);
-    match u32::try_from(front.len()) {
-        Ok(len) => Ok(MemStore::new(front, len, Calls::new(alloc, &[])?)?),
-        Err(_) => bail!("it is too large"),
-    }
-}
-
-/// The image at `path`; `-` is standard input. Of what is no regular file, such as a device or a pipe, at most `most`
-/// bytes are read.
-pub fn open<R: Runtime, S: Read>(
+// The image at a path.
+fn open<R: Runtime, S: Read>(
     rt: &R,
     alloc: Global,
     input: &mut S,
     path: &str,
     most: u32,
-) -> Result<Image<R>> {
+) -> Result<Kind<R>> {
     if path == "-" {
-        return Ok(Image::Front(in_memory(alloc, input, most)?));
+        return Ok(Kind::Front(front_of(alloc, input, most as usize)?));
     }
     let metadata = fs::metadata(rt, path)?;
     if metadata.is_dir() {
         bail!("it is a folder");
     }
     if metadata.is_file() {
-        return Ok(Image::File(FileLoad::new(rt, alloc, path)?));
+        return Ok(Kind::File(FileLoad::new(rt, alloc, path)?));
     }
     let mut device = fs::File::open(rt, path)?;
-    Ok(Image::Front(in_memory(alloc, &mut device, most)?))
+    Ok(Kind::Front(front_of(alloc, &mut device, most as usize)?))
+}
+
+/// Why an image could not be opened, or a region not found.
+pub fn unopened(alloc: Global, error: &anyhow::Error) -> Failure
+    ensures { IsUnopened result }
+{
+    match format!(in alloc; "{error:#}") {
+        Ok(why) => Failure::Unopened(why),
+        Err(_) => Failure::Memory,
+    }
+}
+
+/// The images of the system, by their paths; `-` is standard input. Of what is no regular file, such as a device or a
+/// pipe, no more is read than is wanted.
+#[derive(Drop)]
+pub struct System<R: Runtime, S> {
+    rt: R,
+    alloc: Global,
+    input: S,
+}
+
+impl<R: Runtime, S> System<R, S> {
+    pub fn new(rt: R, alloc: Global, input: S) -> System<R, S> {
+        System { rt, alloc, input }
+    }
+}
+
+impl<R: Runtime, S: Read> Images for System<R, S> {
+    type Image = Image<R>;
+
+    ghost content = { λ _ _ _. None };
+
+    fn open(&mut self, path: &str, most: u32) -> Result<Image<R>, Failure> {
+        match open(&self.rt, self.alloc, &mut self.input, path, most) {
+            Ok(kind) => Ok(Image { kind, faults: 0 }),
+            Err(error) => Err(unopened(self.alloc, &error)),
+        }
+    }
 }

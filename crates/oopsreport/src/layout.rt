@@ -1,18 +1,17 @@
 // How the words of the command line ask for images to be read.
 use anyhow::anyhow;
 use clap::ArgMatches;
-use dtb::{Fault, ramoops_nodes};
+use dtb::ramoops_nodes;
 use found_regions::{first_address, place_asked};
 use grammar_spec::ParamFault;
 use kernel_line::{KernelLine, LineFault};
-use ramoops_layout::given;
-use report_entry::{NoLayouts, sought};
-use report_tool::{Found, Known, Plan, PlanFault, TreeFault, add_tag, ftrace_tag};
+use report_entry::{Layouts, LayoutsFault, NoLayouts, Place, Said, layouts_by};
+use report_run::dressed;
+use report_tool::{Format, Found, Plan, add_tag, ftrace_tag};
 use std::alloc::{AllocError, Global};
 use std::io::ErrorKind;
 use std::rt::Runtime;
 use std::{env, fs};
-use symbols::Symbols;
 
 /// The keys that no layout which is looked for has, by their numbers.
 const UNSOUGHT: [&str; 5] = [
@@ -127,24 +126,30 @@ fn told(words: &[String], fault: ParamFault) -> anyhow::Error {
     }
 }
 
-// What is wrong with a device tree.
-fn told_tree(fault: Fault) -> &'static str {
-    match fault {
-        Fault::NoMagic => "it is no flattened device tree",
-        Fault::Version => "its version is not 17, nor one that reads as 17",
-        Fault::Outside => "a block lies outside it",
-        Fault::EndMissing => "its structure breaks off",
-        Fault::UnknownToken => "its structure has an unknown token",
-        Fault::Unended => "a name has no end",
-        Fault::PropertyOutside => "a property stands outside a node, or behind a child",
-        Fault::EndOutside => "a node ends that did not begin",
-        Fault::TooDeep => "its nodes are more than 64 deep",
-        Fault::Roots => "it has no root, or two",
-        Fault::TooShort => "a number of a ramoops node has fewer than four bytes",
-        Fault::TooLarge => "a number of a ramoops node is above 2147483647",
-        Fault::Reg => "a ramoops node has no address and size that can be read",
-    }
-}
+/// What is wrong with a device tree, by the fault's number less one.
+const TREE_FAULTS: [&str; 16] = [
+    "it is no flattened device tree",
+    "its version is not 17, nor one that reads as 17",
+    "a block lies outside it",
+    "its structure breaks off",
+    "its structure has an unknown token",
+    "a name has no end",
+    "a property stands outside a node, or behind a child",
+    "a node ends that did not begin",
+    "its nodes are more than 64 deep",
+    "it has no root, or two",
+    "a number of a ramoops node has fewer than four bytes",
+    "a number of a ramoops node is above 2147483647",
+    "a ramoops node has no address and size that can be read",
+    "no such ramoops node",
+    "several ramoops nodes; choose one by --node",
+    "give --param cpus=N: there is an ftrace zone for each processor",
+];
+
+/// The numbers of the faults of a device tree whose nodes' paths are told.
+const NO_NODE: u32 = 14;
+
+const SEVERAL: u32 = 15;
 
 // The paths of the ramoops nodes, each after a space.
 fn paths(alloc: Global, tree: &[u8]) -> Result<String, AllocError> {
@@ -158,78 +163,59 @@ fn paths(alloc: Global, tree: &[u8]) -> Result<String, AllocError> {
     Ok(text)
 }
 
-// Why a device tree gives no plan.
-fn no_plan(path: &str, words: &[String], fault: TreeFault) -> NoPlan {
-    NoPlan::Words(match fault {
-        TreeFault::Memory => return NoPlan::Memory,
-        TreeFault::Tree(fault) => anyhow!("{path}: {}", told_tree(fault)),
-        TreeFault::NoNode => anyhow!("{path}: no such ramoops node"),
-        TreeFault::Several => anyhow!("{path}: several ramoops nodes; choose one by --node"),
-        TreeFault::Word(fault) => told(words, fault),
-        TreeFault::NoCpus => {
-            anyhow!("{path}: give --param cpus=N: there is an ftrace zone for each processor")
+// A key that no layout has which is looked for: `lack` is what the words lack.
+fn told_unsought(number: u8, lack: &str) -> anyhow::Error {
+    let key = UNSOUGHT.get(usize::from(number)).unwrap_or(&"it");
+    anyhow!("{key} needs {lack}: a layout with it is not looked for")
+}
+
+// What is wrong with a device tree, by the fault's number.
+fn told_tree(path: &str, number: u32) -> anyhow::Error {
+    let what = TREE_FAULTS
+        .get((number as usize).wrapping_sub(1))
+        .unwrap_or(&"it");
+    anyhow!("{path}: {what}")
+}
+
+// Why words, or the device tree in a file, give no layout.
+fn no_layout(words: &[String], path: Option<&str>, none: NoLayouts) -> NoPlan {
+    NoPlan::Words(match (none, path) {
+        (NoLayouts::Memory, _) => return NoPlan::Memory,
+        (NoLayouts::Word(fault), _) => told(words, fault),
+        (NoLayouts::Unsought(number), _) => told_unsought(number, "mem_size"),
+        (NoLayouts::Layout(fault), Some(path)) => {
+            anyhow!("{path}: layout fault {}: {fault}", fault.number())
         }
-        TreeFault::Layout(fault) => anyhow!("{path}: layout fault {}: {fault}", fault.number()),
+        (NoLayouts::Layout(fault), None) => anyhow!("layout fault {}: {fault}", fault.number()),
+        (NoLayouts::Tree(number), path) => told_tree(path.unwrap_or(""), number),
     })
 }
 
-// The plan of the device tree in a file.
-fn tree_plan<R: Runtime>(
+// Why it is not known how the images are laid out.
+fn no_layouts(words: &[String], path: Option<&str>, fault: LayoutsFault) -> NoPlan {
+    match fault {
+        LayoutsFault::NoLayouts(none) => no_layout(words, path, none),
+        LayoutsFault::Unplaced(number) => NoPlan::Words(told_unsought(number, "--at")),
+        LayoutsFault::AsGiven => NoPlan::Words(anyhow!("--mem-as-given needs mem_size")),
+        LayoutsFault::NoPlace => {
+            NoPlan::Words(anyhow!("--dtb in a memory needs --memory-at or --at"))
+        }
+    }
+}
+
+// The nodes of a device tree, where one of them must be named.
+fn tell_nodes<R: Runtime>(
     rt: &R,
     alloc: Global,
     path: &str,
-    node: Option<&str>,
-    words: &[String],
-) -> Result<Plan, NoPlan> {
-    let tree = read_file(rt, path)?;
-    match Plan::of_tree(alloc, &tree, node, words) {
-        Ok(plan) => Ok(plan),
-        Err(fault) => {
-            if matches!(fault, TreeFault::NoNode | TreeFault::Several) {
-                let paths = paths(alloc, &tree)?;
-                let _told = eprintln!(rt; "{path}: ramoops nodes:{paths}");
-            }
-            Err(no_plan(path, words, fault))
-        }
+    tree: &[u8],
+    fault: LayoutsFault,
+) -> Result<(), NoPlan> {
+    if let LayoutsFault::NoLayouts(NoLayouts::Tree(NO_NODE | SEVERAL)) = fault {
+        let paths = paths(alloc, tree)?;
+        let _told = eprintln!(rt; "{path}: ramoops nodes:{paths}");
     }
-}
-
-// The plan of the words alone.
-fn words_plan(alloc: Global, words: &[String], is_as_given: bool) -> Result<Plan, NoPlan> {
-    match Plan::new(alloc, words, is_as_given) {
-        Ok(plan) => Ok(plan),
-        Err(PlanFault::Memory) => Err(NoPlan::Memory),
-        Err(PlanFault::Word(fault)) => Err(NoPlan::Words(told(words, fault))),
-        Err(PlanFault::Layout(fault)) => {
-            let number = fault.number();
-            Err(NoPlan::Words(anyhow!("layout fault {number}: {fault}")))
-        }
-    }
-}
-
-// What the words say of a layout that is looked for: `lack` is what they lack.
-fn sought_by(words: &[String], is_as_given: bool, lack: &str) -> Result<Known, NoPlan> {
-    if is_as_given {
-        return Err(NoPlan::Words(anyhow!("--mem-as-given needs {lack}")));
-    }
-    match sought(words) {
-        Ok(known) => Ok(known),
-        Err(NoLayouts::Word(fault)) => Err(NoPlan::Words(told(words, fault))),
-        Err(NoLayouts::Unsought(number)) => {
-            let key = UNSOUGHT.get(usize::from(number)).unwrap_or(&"it");
-            Err(NoPlan::Words(anyhow!("{key} needs {lack}: a layout with it is not looked for")))
-        }
-        Err(_) => Err(NoPlan::Memory),
-    }
-}
-
-/// How the images are laid out.
-#[derive(Drop)]
-pub enum Layouts {
-    /// All alike.
-    Given(Plan),
-    /// Each by its own bytes, which must agree with what is known.
-    Sought(Known),
+    Ok(())
 }
 
 /// A whole memory: the address of its first byte, or 0, and the place of the region in it, if one is named.
@@ -241,33 +227,38 @@ pub struct Memory {
     pub reserved: Option<u64>,
 }
 
+/// Which of the two outputs is a terminal.
+#[derive(Clone, Copy)]
+pub struct Terminal {
+    pub is_output: bool,
+    pub is_errors: bool,
+}
+
 /// How the images are read.
 #[derive(Drop)]
 pub struct Asked {
-    pub layouts: Layouts,
+    pub images: report_run::Asked,
     pub is_coloured: bool,
     /// If the images are whole memories.
     pub memory: Option<Memory>,
-    lines: usize,
-    map: Option<Vec<u8>>,
 }
 
 impl Asked {
-    // A plan with the lines and the map that are asked for.
-    fn dressed(&self, alloc: Global, plan: Plan) -> Result<Plan, AllocError> {
-        let plan = plan.with_lines(self.lines);
-        match &self.map {
-            Some(map) => Ok(plan.with_symbols(Symbols::read(alloc, Vec::from_slice(alloc, map)?)?)),
-            None => Ok(plan),
-        }
-    }
-
     /// The plan of a layout that was found.
     pub fn plan_of(&self, alloc: Global, found: &Found) -> Result<Plan, AllocError> {
         match Plan::of_candidate(alloc, &found.candidate) {
-            Ok(plan) => self.dressed(alloc, plan),
+            Ok(plan) => dressed(alloc, plan, self.images.lines, &self.images.map),
             Err(_) => Err(AllocError),
         }
+    }
+}
+
+/// How a report is written.
+pub fn format(matches: &ArgMatches<'_>) -> Format {
+    match matches.get_str("format") {
+        Some("json") => Format::Json,
+        Some("html") => Format::Html,
+        _ => Format::Text,
     }
 }
 
@@ -346,29 +337,48 @@ fn memory_by<R: Runtime>(
     }
 }
 
-// How the images are laid out by the words alone, without a device tree. In a whole memory in which no place is named a
-// layout is looked for also if its size is known.
-fn layouts_by(
-    alloc: Global,
-    words: &[String],
-    is_as_given: bool,
-    memory: Option<Memory>,
-) -> Result<Layouts, NoPlan> {
-    if given(words, "mem_size").is_none() {
-        let mut known = sought_by(words, is_as_given, "mem_size")?;
-        if let Some(Memory { reserved, .. }) = memory {
-            known.mem = reserved;
-        }
-        return Ok(Layouts::Sought(known));
+// What the words say of the place of the region.
+fn said_by(matches: &ArgMatches<'_>, memory: Option<Memory>) -> Said {
+    Said {
+        is_as_given: matches.get_flag("mem-as-given"),
+        place: match memory {
+            Some(
+                Memory {
+                    place: Some(place),
+                    ..
+                },
+            ) => Place::At(place),
+            Some(Memory { place: None, .. }) => Place::Anywhere,
+            None => Place::Front,
+        },
+        reserved: match memory {
+            Some(memory) => memory.reserved,
+            None => None,
+        },
     }
-    let plan = words_plan(alloc, words, is_as_given)?;
-    match memory {
-        Some(Memory { place: None, .. }) => {
-            let mut known = sought_by(words, false, "--at")?;
-            known.mem = Some(u64::from(plan.mem()));
-            Ok(Layouts::Sought(known))
+}
+
+// How the images are laid out.
+fn layouts_of<R: Runtime>(
+    rt: &R,
+    alloc: Global,
+    matches: &ArgMatches<'_>,
+    words: &[String],
+    said: &Said,
+) -> Result<Layouts, NoPlan> {
+    let Some(path) = matches.get_str("dtb") else {
+        return match layouts_by(alloc, words, None, None, said) {
+            Ok(layouts) => Ok(layouts),
+            Err(fault) => Err(no_layouts(words, None, fault)),
+        };
+    };
+    let tree = read_file(rt, path)?;
+    match layouts_by(alloc, words, Some(&tree), matches.get_str("node"), said) {
+        Ok(layouts) => Ok(layouts),
+        Err(fault) => {
+            tell_nodes(rt, alloc, path, &tree, fault)?;
+            Err(no_layouts(words, Some(path), fault))
         }
-        _ => Ok(Layouts::Given(plan)),
     }
 }
 
@@ -377,7 +387,7 @@ pub fn asked_by<R: Runtime>(
     rt: &R,
     alloc: Global,
     matches: &ArgMatches<'_>,
-    is_terminal: bool,
+    terminal: Terminal,
 ) -> Result<Asked, NoPlan> {
     let mut words = Vec::new(alloc);
     let line = read_line(rt, alloc, matches)?;
@@ -387,25 +397,25 @@ pub fn asked_by<R: Runtime>(
         true => Some(memory_by(rt, alloc, matches, &line)?),
         false => None,
     };
-    let layouts = match (matches.get_str("dtb"), memory) {
-        (Some(_), Some(Memory { place: None, .. })) => {
-            return Err(NoPlan::Words(anyhow!("--dtb in a memory needs --memory-at or --at")));
-        }
-        (Some(path), _) => {
-            Layouts::Given(tree_plan(rt, alloc, path, matches.get_str("node"), &words)?)
-        }
-        (None, memory) => { layouts_by(alloc, &words, matches.get_flag("mem-as-given"), memory)? }
-    };
-    let mut asked = Asked {
-        layouts: Layouts::Sought(Known::default()),
-        is_coloured: is_coloured(rt, matches, is_terminal),
-        memory,
-        lines: line_count(matches)?,
-        map: read_map(rt, alloc, matches)?,
-    };
-    asked.layouts = match layouts {
-        Layouts::Given(plan) => Layouts::Given(asked.dressed(alloc, plan)?),
+    let said = said_by(matches, memory);
+    let layouts = layouts_of(rt, alloc, matches, &words, &said)?;
+    let lines = line_count(matches)?;
+    let map = read_map(rt, alloc, matches)?;
+    let layouts = match layouts {
+        Layouts::Given(plan) => Layouts::Given(dressed(alloc, plan, lines, &map)?),
         sought => sought,
     };
-    Ok(asked)
+    let format = format(matches);
+    Ok(Asked {
+        images: report_run::Asked {
+            layouts,
+            format,
+            lines,
+            map,
+            saves: matches.get_str("save").is_some(),
+            counts: terminal.is_errors,
+        },
+        is_coloured: format == Format::Text && is_coloured(rt, matches, terminal.is_output),
+        memory,
+    })
 }

@@ -6,23 +6,22 @@ mod folder;
 mod image;
 mod layout;
 mod memory;
-mod messages;
 
-use anyhow::{Context, Result, anyhow, bail};
+use anyhow::{Result, anyhow, bail};
 use clap::ArgMatches;
 use clap::error::ErrorKind;
 use command::command;
-use folder::Dir;
+use folder::Named;
 use found_regions::Region;
-use image::Image;
-use layout::{Asked, Layouts, Memory, NoPlan, asked_by};
+use image::{System, unopened};
+use layout::{Asked, Memory, NoPlan, Terminal, asked_by, format};
 use memory::{Progress, named, part_at, region, regions};
-use messages::Messages;
-use outside::{FileLoad, Load, WriterSink};
+use outside::{FileLoad, Load, Sink, WriterSink};
 use region_report::Report;
 use report_colours::ColourSink;
-use report_entry::{best_hint, taken_hint};
-use report_tool::{Format, Known, Plan, Stop, find, report, save};
+use report_entry::{Layouts, taken_hint};
+use report_run::{Failure, Messages, Records, report_by, status_of, tell_layout};
+use report_tool::{Format, Known, Plan};
 use std::alloc::{AllocError, Global};
 use std::io::{IsTerminal, Read};
 use std::process::ExitCode;
@@ -35,154 +34,36 @@ const NOT_DONE: u8 = 1;
 /// The status where the words of the command line are wrong.
 const WRONG_WORDS: u8 = 2;
 
-fn format(matches: &ArgMatches<'_>) -> Format {
-    match matches.get_str("format") {
-        Some("json") => Format::Json,
-        Some("html") => Format::Html,
-        _ => Format::Text,
-    }
-}
-
-// Why an image was not reported.
-fn told(stop: Stop) -> anyhow::Error {
-    match stop {
-        Stop::Short { has, needed } => anyhow!("it has {has} bytes, and the layout needs {needed}"),
-        Stop::ImageFault => anyhow!("it could not be read"),
-        Stop::SinkFault => anyhow!("standard output could not be written"),
-        _ => AllocError.into(),
-    }
-}
-
-// A layout is looked for in the front of an image that is no file.
-const MOST: u32 = 16_777_216;
-
-// Lines about the layout: above a text, and else to standard error, so that no layout is taken in silence.
-fn tell<R: Runtime>(rt: &R, errors: &mut Messages<R>, format: Format, lines: &str) -> Result<()> {
-    if format == Format::Text {
-        print!(rt; "{lines}")?;
-    } else {
-        errors.tell(lines);
-    }
-    Ok(())
-}
-
-// The plan of the layout that an image shows, which is told.
-fn found_plan<R: Runtime, M: Load>(
-    rt: &R,
-    errors: &mut Messages<R>,
-    alloc: Global,
-    asked: &Asked,
-    known: &Known,
-    format: Format,
-    path: &str,
-    image: &mut M,
-) -> Result<Plan> {
-    let Ok(size) = image.size() else {
-        bail!("it could not be read");
-    };
-    let found = match find(alloc, image, known) {
-        Ok(Some(found)) => found,
-        Ok(None) => bail!("no layout was found; give it by --param, --cmdline or --dtb"),
-        Err(stop) => return Err(told(stop)),
-    };
-    if !found.taken || !found.whole {
-        let best = best_hint(alloc, path, size, &found)?;
-        errors.tell(&format!(in alloc; "oopsreport: {best}")?);
-        match found.whole {
-            true => bail!("no layout explains it; give it by --param, --cmdline or --dtb"),
-            false => bail!("not all layouts were tried; give it by --param, --cmdline or --dtb"),
-        }
-    }
-    tell(rt, errors, format, &taken_hint(alloc, path, size, &found)?)?;
-    Ok(asked.plan_of(alloc, &found)?)
-}
-
-// The report of an image by a plan.
-fn report_by<R: Runtime, M: Load>(
-    rt: &R,
-    alloc: Global,
-    plan: &Plan,
-    asked: &Asked,
-    format: Format,
-    path: &str,
-    image: &mut M,
-) -> Result<Report> {
-    let mut out = WriterSink::new(io::writer(rt));
-    let done = if asked.is_coloured && format == Format::Text {
-        let mut out = ColourSink::new(out);
-        report(alloc, plan, format, path, image, &mut out)
-    } else {
-        report(alloc, plan, format, path, image, &mut out)
-    };
+// What was done, or why an image could not be opened.
+fn opened<T>(alloc: Global, done: Result<T>) -> Result<T, Failure> {
     match done {
-        Ok(report) => Ok(report),
-        Err(stop) => Err(told(stop)),
+        Ok(value) => Ok(value),
+        Err(error) => Err(unopened(alloc, &error)),
     }
 }
 
-// The report of an image.
-fn report_image<R: Runtime, M: Load>(
+// The report by a plan, in colours where they are asked for.
+fn report_plan<R: Runtime, M: Load>(
     rt: &R,
-    errors: &mut Messages<R>,
     alloc: Global,
     asked: &Asked,
-    format: Format,
+    plan: &Plan,
     path: &str,
     image: &mut M,
-) -> Result<Report> {
-    match &asked.layouts {
-        Layouts::Given(plan) => report_by(rt, alloc, plan, asked, format, path, image),
-        Layouts::Sought(known) => {
-            let plan = found_plan(rt, errors, alloc, asked, known, format, path, image)?;
-            report_by(rt, alloc, &plan, asked, format, path, image)
-        }
+) -> Result<Report, Failure> {
+    let mut out = WriterSink::new(io::writer(rt));
+    if asked.is_coloured {
+        let mut out = ColourSink::new(out);
+        report_by(alloc, plan, asked.images.format, path, image, &mut out)
+    } else {
+        report_by(alloc, plan, asked.images.format, path, image, &mut out)
     }
 }
 
-// One image: its report, and its records saved where a folder is named.
-fn one_image<R: Runtime, S: Read>(
-    rt: &R,
-    errors: &mut Messages<R>,
-    alloc: Global,
-    input: &mut S,
-    asked: &Asked,
-    format: Format,
-    folder: Option<&str>,
-    path: &str,
-) -> Result<()> {
-    let most = match &asked.layouts {
-        Layouts::Given(plan) => plan.mem(),
-        Layouts::Sought(_) => MOST,
-    };
-    let report = match image::open(rt, alloc, input, path, most)? {
-        Image::File(mut file) => {
-            report_image(rt, errors, alloc, asked, format, path, &mut file)?
-        }
-        Image::Front(mut front) => {
-            report_image(rt, errors, alloc, asked, format, path, &mut front)?
-        }
-    };
-    save_records(rt, alloc, folder, &report)
-}
-
-// The records of an image saved, where a folder is named.
-fn save_records<R: Runtime>(
-    rt: &R,
-    alloc: Global,
-    folder: Option<&str>,
-    report: &Report,
-) -> Result<()> {
-    let Some(folder) = folder else {
-        return Ok(());
-    };
-    let mut dir = Dir::new(rt.clone()?, alloc, folder).context(format_args!("{folder}"))?;
-    match save(&mut dir, report) {
-        Ok(()) => Ok(()),
-        Err(_) => match dir.error() {
-            Some(e) => Err(anyhow!("a record was not saved in {folder}: {e}")),
-            None => Err(anyhow!("a record was not saved in {folder}")),
-        },
-    }
+// The name of the region at a place.
+fn region_name(alloc: Global, path: &str, base: u64, place: u64) -> Result<String, AllocError> {
+    let place = named(alloc, base, place)?;
+    format!(in alloc; "{path}@{place}")
 }
 
 // The report of the region at a place of a file, and its records saved.
@@ -191,48 +72,36 @@ fn report_region<R: Runtime>(
     alloc: Global,
     asked: &Asked,
     plan: &Plan,
-    format: Format,
-    folder: Option<&str>,
+    records: &mut Named<R>,
     path: &str,
     memory: Memory,
     place: u64,
-) -> Result<()> {
-    let name = format!(in alloc; "{path}@{}", named(alloc, memory.base, place)?)?;
-    let mut part = part_at(rt, alloc, path, place, plan.mem())?;
-    let report = report_by(rt, alloc, plan, asked, format, &name, &mut part)?;
-    save_records(rt, alloc, folder, &report)
+) -> Result<(), Failure> {
+    let name = region_name(alloc, path, memory.base, place)?;
+    let mut part = opened(alloc, part_at(rt, alloc, path, place, plan.mem()))?;
+    let report = report_plan(rt, alloc, asked, plan, &name, &mut part)?;
+    records.save(&report)
 }
 
-// What was found of a region.
-fn tell_region<R: Runtime>(
-    rt: &R,
-    errors: &mut Messages<R>,
+// The lines on what was found of a region.
+fn region_lines(
     alloc: Global,
-    format: Format,
     path: &str,
     base: u64,
     region: &Region,
-) -> Result<()> {
-    let place = named(alloc, base, region.place)?;
-    let name = format!(in alloc; "{path}@{place}")?;
-    let size = region.found.candidate.mem;
-    tell(
-        rt,
-        errors,
-        format,
-        &taken_hint(alloc, &name, size, &region.found)?,
-    )?;
+) -> Result<String, AllocError> {
+    let name = region_name(alloc, path, base, region.place)?;
+    let mut lines = taken_hint(alloc, &name, region.found.candidate.mem, &region.found)?;
     if let Some(size) = region.larger {
-        let line = format!(in alloc; "a region of {size} bytes explains as much\n")?;
-        tell(rt, errors, format, &line)?;
+        lines.push_str(&format!(in alloc; "a region of {size} bytes explains as much\n")?)?;
     }
-    Ok(())
+    Ok(lines)
 }
 
 // The regions of a memory.
-fn regions_of<R: Runtime>(
+fn regions_of<R: Runtime, E: Sink>(
     rt: &R,
-    errors: &mut Messages<R>,
+    messages: &mut Messages<E>,
     alloc: Global,
     known: &Known,
     path: &str,
@@ -248,7 +117,7 @@ fn regions_of<R: Runtime>(
     }
     let mut progress = Progress::new(rt.clone()?, shows_progress);
     let regions = regions(
-        errors,
+        messages,
         alloc,
         &mut file,
         known,
@@ -272,111 +141,172 @@ fn choose_one(alloc: Global, base: u64, regions: &[Region]) -> Result<anyhow::Er
     Ok(anyhow!("several regions; choose one by --at:{places}"))
 }
 
-// A whole memory: the report of each region, and the records of one saved.
-fn one_memory<R: Runtime>(
+// The regions of a memory that are reported.
+fn regions_asked<R: Runtime, E: Sink>(
     rt: &R,
-    errors: &mut Messages<R>,
+    messages: &mut Messages<E>,
     alloc: Global,
     asked: &Asked,
+    known: &Known,
     memory: Memory,
-    format: Format,
-    folder: Option<&str>,
     path: &str,
     shows_progress: bool,
-) -> Result<()> {
-    if !fs::metadata(rt, path)?.is_file() {
-        bail!("it is no file");
-    }
-    let known = match (&asked.layouts, memory.place) {
-        (Layouts::Given(plan), Some(place)) => {
-            return report_region(rt, alloc, asked, plan, format, folder, path, memory, place);
-        }
-        (Layouts::Given(_), None) => bail!("no place is named"),
-        (Layouts::Sought(known), _) => known,
-    };
-    let regions = regions_of(rt, errors, alloc, known, path, memory, shows_progress)?;
-    if regions.len() > 1 && (format == Format::Html || folder.is_some()) {
+) -> Result<Vec<Region>> {
+    let regions = regions_of(rt, messages, alloc, known, path, memory, shows_progress)?;
+    if regions.len() > 1 && (asked.images.format == Format::Html || asked.images.saves) {
         return Err(choose_one(alloc, memory.base, &regions)?);
     }
-    for region in &regions {
-        tell_region(rt, errors, alloc, format, path, memory.base, region)?;
-        let plan = asked.plan_of(alloc, &region.found)?;
-        report_region(
-            rt,
-            alloc,
-            asked,
-            &plan,
-            format,
-            folder,
-            path,
-            memory,
-            region.place,
-        )?;
+    Ok(regions)
+}
+
+// Whether the image at a path is a file.
+fn must_be_file<R: Runtime>(rt: &R, path: &str) -> Result<()> {
+    if !fs::metadata(rt, path)?.is_file() {
+        bail!("it is no file");
     }
     Ok(())
 }
 
-// All images, one after another, and the status. A line that standard error does not take ends nothing.
-fn all_images<R: Runtime, S: Read>(
+// A whole memory: the report of each region, and the records of one saved.
+fn one_memory<R: Runtime, E: Sink>(
     rt: &R,
-    errors: &mut Messages<R>,
+    messages: &mut Messages<E>,
     alloc: Global,
-    input: &mut S,
     asked: &Asked,
-    matches: &ArgMatches<'_>,
+    memory: Memory,
+    records: &mut Named<R>,
+    path: &str,
     shows_progress: bool,
-) -> u8 {
-    let paths = matches.get_strs("image").unwrap_or(&[]);
-    let count = paths.len();
-    let mut status = 0;
-    for (i, path) in paths.iter().enumerate() {
-        if shows_progress && count > 1 && eprint!(rt; "\r{i} of {count} ").is_err() {
-            status = NOT_DONE;
+) -> Result<(), Failure> {
+    opened(alloc, must_be_file(rt, path))?;
+    let known = match (&asked.images.layouts, memory.place) {
+        (Layouts::Given(plan), Some(place)) => {
+            return report_region(rt, alloc, asked, plan, records, path, memory, place);
         }
-        let folder = matches.get_str("save");
-        let format = format(matches);
-        let done = match asked.memory {
-            Some(memory) => {
-                one_memory(
-                    rt,
-                    errors,
-                    alloc,
-                    asked,
-                    memory,
-                    format,
-                    folder,
-                    path,
-                    shows_progress,
-                )
-            }
-            None => one_image(rt, errors, alloc, input, asked, format, folder, path),
-        };
-        match done {
-            Ok(()) => (),
-            Err(e) => {
-                status = NOT_DONE;
-                let _told = eprintln!(rt; "oopsreport: {path}: {e:#}");
-            }
-        }
+        (Layouts::Given(_), None) => return Err(unopened(alloc, &anyhow!("no place is named"))),
+        (Layouts::Sought(known), _) => known,
+    };
+    let regions = regions_asked(
+        rt,
+        messages,
+        alloc,
+        asked,
+        known,
+        memory,
+        path,
+        shows_progress,
+    );
+    for region in &opened(alloc, regions)? {
+        let lines = region_lines(alloc, path, memory.base, region)?;
+        let mut out = WriterSink::new(io::writer(rt));
+        tell_layout(asked.images.format, &lines, &mut out, messages)?;
+        let plan = asked.plan_of(alloc, &region.found)?;
+        report_region(rt, alloc, asked, &plan, records, path, memory, region.place)?;
     }
-    if shows_progress && count > 1 && eprintln!(rt; "\r{count} of {count} ").is_err() {
-        status = NOT_DONE;
-    }
-    if errors.is_lost() { NOT_DONE } else { status }
+    Ok(())
 }
 
-// Which of the two outputs is a terminal.
-#[derive(Clone, Copy)]
-struct Terminal {
-    is_output: bool,
-    is_errors: bool,
+// Whole memories, one after another, and the status. A line that standard error does not take ends nothing.
+fn all_memories<R: Runtime, E: Sink>(
+    rt: &R,
+    messages: &mut Messages<E>,
+    alloc: Global,
+    asked: &Asked,
+    memory: Memory,
+    records: &mut Named<R>,
+    paths: &[String],
+) -> u8 {
+    let counts = asked.images.counts && paths.len() > 1;
+    let mut status = 0;
+    for (i, path) in paths.iter().enumerate() {
+        messages.tell_count(counts, i, paths.len());
+        let shows = asked.images.counts;
+        if let Err(failure) = one_memory(rt, messages, alloc, asked, memory, records, path, shows) {
+            status = NOT_DONE;
+            messages.tell_failure(path, &failure);
+        }
+    }
+    messages.tell_end(counts, paths.len());
+    if messages.is_lost { NOT_DONE } else { status }
+}
+
+// All images, one after another, and the status.
+fn all_paths<R: Runtime, S: Read, O: Sink, E: Sink>(
+    messages: &mut Messages<E>,
+    alloc: Global,
+    images: &mut System<R, S>,
+    asked: &report_run::Asked,
+    records: &mut Named<R>,
+    out: &mut O,
+    paths: &[String],
+) -> u8 {
+    let all = paths.len();
+    let failed = report_run::run(alloc, asked, paths, images, out, messages, records);
+    messages.tell_end(asked.counts && all > 1, all);
+    status_of(failed, messages.is_lost)
+}
+
+// Does what is asked of the images.
+fn all_images<R: Runtime, S: Read, E: Sink>(
+    rt: &R,
+    messages: &mut Messages<E>,
+    alloc: Global,
+    images: &mut System<R, S>,
+    asked: &Asked,
+    records: &mut Named<R>,
+    paths: &[String],
+) -> u8 {
+    if let Some(memory) = asked.memory {
+        return all_memories(rt, messages, alloc, asked, memory, records, paths);
+    }
+    let mut out = WriterSink::new(io::writer(rt));
+    if asked.is_coloured {
+        let mut out = ColourSink::new(out);
+        all_paths(
+            messages,
+            alloc,
+            images,
+            &asked.images,
+            records,
+            &mut out,
+            paths,
+        )
+    } else {
+        all_paths(
+            messages,
+            alloc,
+            images,
+            &asked.images,
+            records,
+            &mut out,
+            paths,
+        )
+    }
+}
+
+// The paths of the images.
+fn paths_of(alloc: Global, matches: &ArgMatches<'_>) -> Result<Vec<String>, AllocError> {
+    let mut paths = Vec::new(alloc);
+    for path in matches.get_strs("image").unwrap_or(&[]) {
+        paths.push(String::from_str(alloc, path)?)?;
+    }
+    Ok(paths)
+}
+
+// The folder in which records are saved, if one is named.
+fn folder_named(alloc: Global, matches: &ArgMatches<'_>) -> Result<Option<String>, AllocError> {
+    match matches.get_str("save") {
+        Some(folder) => Ok(Some(String::from_str(alloc, folder)?)),
+        None => Ok(None),
+    }
 }
 
 // Reads the words, and does what they ask.
-fn run<R: Runtime, S: Read>(
+fn run<R: Runtime, S: Read + Drop, E: Sink>(
     rt: &R,
+    messages: &mut Messages<E>,
     alloc: Global,
-    input: &mut S,
+    input: S,
     words: &[String],
     terminal: Terminal,
 ) -> Result<u8> {
@@ -388,23 +318,24 @@ fn run<R: Runtime, S: Read>(
             return Ok(error.exit_code() as u8);
         }
     };
-    let images = matches.get_strs("image").unwrap_or(&[]).len();
-    if images > 1 && format(&matches) == Format::Html {
+    let paths = paths_of(alloc, &matches)?;
+    if paths.len() > 1 && format(&matches) == Format::Html {
         let error = command(alloc)?.error(ErrorKind::TooManyValues, "a page shows one image")?;
         error.print(rt)?;
         return Ok(WRONG_WORDS);
     }
-    match asked_by(rt, alloc, &matches, terminal.is_output) {
+    match asked_by(rt, alloc, &matches, terminal) {
         Ok(asked) => {
-            let mut errors = Messages::new(rt.clone()?);
+            let mut images = System::new(rt.clone()?, alloc, input);
+            let mut records = Named::new(rt.clone()?, alloc, folder_named(alloc, &matches)?);
             Ok(all_images(
                 rt,
-                &mut errors,
+                messages,
                 alloc,
-                input,
+                &mut images,
                 &asked,
-                &matches,
-                terminal.is_errors,
+                &mut records,
+                &paths,
             ))
         }
         Err(NoPlan::Memory) => Err(AllocError.into()),
@@ -422,7 +353,8 @@ fn try_run(rt: &HostRuntime) -> Result<u8> {
         is_output: rt.stdout().is_terminal(),
         is_errors: rt.stderr().is_terminal(),
     };
-    run(rt, alloc, &mut rt.stdin(), &words, terminal)
+    let mut messages = Messages::new(WriterSink::new(rt.stderr()));
+    run(rt, &mut messages, alloc, rt.stdin(), &words, terminal)
 }
 
 fn main(rt: HostRuntime) -> ExitCode {

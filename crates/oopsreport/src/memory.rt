@@ -1,8 +1,8 @@
 // Regions in a copy of all of a machine's memory.
-use crate::messages::Messages;
 use anyhow::{Result, anyhow, bail};
 use found_regions::{Finding, Part, Region, Unread, Watch, findings, region_at};
-use outside::{FileLoad, Load};
+use outside::{FileLoad, Load, Sink};
+use report_run::Messages;
 use report_tool::Known;
 use std::alloc::{AllocError, Global};
 use std::rt::Runtime;
@@ -57,8 +57,8 @@ pub fn region<R: Runtime>(
 }
 
 /// The regions of a file, in the order of their places. What is no region is told.
-pub fn regions<R: Runtime>(
-    errors: &mut Messages<R>,
+pub fn regions<R: Runtime, E: Sink>(
+    messages: &mut Messages<E>,
     alloc: Global,
     file: &mut FileLoad<R>,
     known: &Known,
@@ -79,14 +79,14 @@ pub fn regions<R: Runtime>(
                 let line = format!(in alloc;
                     "oopsreport: {path}@{place}: a header seems to stand there, and no layout explains it\n"
                 )?;
-                errors.tell(&line);
+                messages.tell(line.as_bytes());
             }
             Finding::Unseen(place) => {
                 let place = named(alloc, base, *place)?;
                 let line = format!(in alloc;
                     "oopsreport: {path}: what stands from {place} on was not looked at\n"
                 )?;
-                errors.tell(&line);
+                messages.tell(line.as_bytes());
             }
         }
     }

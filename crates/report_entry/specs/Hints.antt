@@ -72,10 +72,16 @@ abbrev pub IsRivalLine : Candidate → Option Candidate → ℕ → List ℕ →
 IsRivalLine c None size line = line ≡ []
 IsRivalLine c (Some rival) size line = HasRivalLine c rival size line
 
+-- the search ended before all layouts were tried
+abbrev pub untried_line : Bool → List ℕ
+untried_line whole =
+    if whole then [] else codes "not all layouts were tried; another may explain it better" ++ 10 ∷ []
+
 pub record IsTakenHint (name : List ℕ) (size : ℕ) (f : Found) (hint : List ℕ) : Type 0 where
   pub rival : List ℕ
   pub is_rival : IsRivalLine f.candidate f.rival size rival
-  pub is : hint ≡ found_line name size f.tally.faults (layout_words f.candidate size) ++ rival
+  pub is : hint
+      ≡ found_line name size f.tally.faults (layout_words f.candidate size) ++ untried_line f.whole ++ rival
 
 -- ---- the best layout, where none is taken
 

@@ -6,7 +6,7 @@ use Rattle.zone_spec.specs.Numbers.{most_memory}
 use Rattle.layout_spec.specs.declared.Known.{Known}
 use Rattle.layout_spec.specs.Laid.{params_of}
 use Rattle.layout_search.specs.declared.searching.Found.{Found}
-use Rattle.layout_search.specs.Answers.{IsAnswer}
+use Rattle.layout_search.specs.Answers.{IsEmpty, IsAnswer}
 use Rattle.region_report.specs.Reports.{ReportHeld}
 use Rattle.report_tool.specs.declared.plan.Plan.{Plan}
 use Rattle.report_tool.specs.declared.showing.Format.{Format}
@@ -25,7 +25,7 @@ use Rattle.report_entry.specs.Memory.{text_bytes}
 
 -- ---- a layout that was looked for
 
--- it is not taken: it does not explain the image, or not all were tried
+-- why it is not taken: it does not explain the image, and all layouts were tried, or not all
 abbrev pub IsUntaken : List ℕ → ℕ → Found → Refusal → Type 0
 IsUntaken name size f (Unexplained hint) = (f.whole ≡ true) × (string_bytes hint ≡ best_hint name size f)
 IsUntaken name size f (Unfinished hint) = (f.whole ≡ false) × (string_bytes hint ≡ best_hint name size f)
@@ -35,24 +35,36 @@ pub record IsTakenPlan (name : List ℕ) (size : ℕ) (f : Found) (told : Hinted
   pub laid : IsLaid (params_of f.candidate) told.plan
   pub hint : IsTakenHint name size f (string_bytes told.hint)
 
+-- a layout that explains itself is taken, though others were not tried
+pub record IsPlanFound (name : List ℕ) (size : ℕ) (f : Found) (told : HintedPlan) : Type 0 where
+  pub taken : f.taken ≡ true
+  pub plan : IsTakenPlan name size f told
+
+abbrev pub IsNotTaken : List ℕ → ℕ → Found → Refusal → Type 0
+IsNotTaken name size f Memory = ⊤
+IsNotTaken name size f (Unexplained hint) = (f.taken ≡ false) × IsUntaken name size f (Unexplained hint)
+IsNotTaken name size f (Unfinished hint) = (f.taken ≡ false) × IsUntaken name size f (Unfinished hint)
+IsNotTaken name size f other = ⊥
+
 -- the layout that the image's first 16 MiB show is taken
 pub record IsFoundPlan (known : Known) (name image : List ℕ) (told : HintedPlan) : Type 0 where
   pub found : Found
   pub answer : IsAnswer known (take most_memory image) found
-  pub taken : found.taken ≡ true
-  pub whole : found.whole ≡ true
-  pub plan : IsTakenPlan name (length image) found told
+  pub plan : IsPlanFound name (length image) found told
 
--- it is not: it explains too little, or another may come first
+-- it is not
 pub record IsUntakenLayout (known : Known) (name image : List ℕ) (why : Refusal) : Type 0 where
   pub found : Found
   pub answer : IsAnswer known (take most_memory image) found
-  pub untaken : found.whole ≡ true → found.taken ≡ false
-  pub why_is : IsUntaken name (length image) found why
+  pub why_is : IsNotTaken name (length image) found why
+
+-- no layout agrees with what is known
+pub record HasNoLayout (known : Known) (image : List ℕ) : Type 0 where
+  pub empty : IsEmpty known (take most_memory image)
 
 abbrev pub IsNotFound : Known → List ℕ → List ℕ → Refusal → Type 0
 IsNotFound known name image Memory = ⊤
-IsNotFound known name image NotFound = ⊤
+IsNotFound known name image NotFound = HasNoLayout known image
 IsNotFound known name image (Unexplained hint) = IsUntakenLayout known name image (Unexplained hint)
 IsNotFound known name image (Unfinished hint) = IsUntakenLayout known name image (Unfinished hint)
 IsNotFound known name image other = ⊥

@@ -3,8 +3,8 @@ ghost use Rattle.std.specs.Prelude.{◌≡◌, ◌↔◌, ◌++◌, IsTrue, deci
 ghost use Rattle.zone_spec.specs.Layout.{layout_of};
 ghost use Rattle.layout_spec.specs.Laid.{params_of};
 ghost use Rattle.report_entry.specs.Hints.{hexadecimal, memory_words, size_words, tagged_words, ftrace_words};
-ghost use Rattle.report_entry.specs.Hints.{layout_words, faults_text, found_line, rival_text, LiesAs, LieAlike};
-ghost use Rattle.report_entry.specs.Hints.{AreAlike, IsRivalLine, IsTakenHint, best_hint};
+ghost use Rattle.report_entry.specs.Hints.{layout_words, faults_text, found_line, rival_text, untried_line};
+ghost use Rattle.report_entry.specs.Hints.{LiesAs, LieAlike, AreAlike, IsRivalLine, IsTakenHint, best_hint};
 
 use layout_search::{Candidate, Found, params};
 use ramoops_layout::{LayoutError, layout};
@@ -177,13 +177,26 @@ fn rival_line(alloc: Global, found: &Found, size: u64) -> Result<String, AllocEr
     }
 }
 
-/// The lines on a layout that is taken: its words, and those of another that explains the image as well. `name` stands
-/// for the path of the image, which has `size` bytes.
+fn untried_line(alloc: Global, whole: bool) -> Result<String, AllocError>
+    ensures { IfOk result (λ text. string_bytes text ≡ untried_line whole) }
+{
+    let mut text = String::new(alloc);
+    if whole {
+        return Ok(text);
+    }
+    text.push_str("not all layouts were tried; another may explain it better")?;
+    text.push_str("\n")?;
+    Ok(text)
+}
+
+/// The lines on a layout that is taken: its words, whether others were not tried, and the words of another that
+/// explains the image as well. `name` stands for the path of the image, which has `size` bytes.
 pub fn taken_hint(alloc: Global, name: &str, size: u64, found: &Found) -> Result<String, AllocError>
     ensures { IfOk result (λ text. IsTakenHint name.now size found.now (string_bytes text)) }
 {
     let words = layout_words(alloc, &found.candidate, size)?;
     let mut text = found_line(alloc, name, size, found.tally.faults, &words)?;
+    text.push_str(&untried_line(alloc, found.whole)?)?;
     text.push_str(&rival_line(alloc, found, size)?)?;
     Ok(text)
 }

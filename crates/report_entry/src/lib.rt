@@ -1,5 +1,6 @@
-//! The report of an image in memory, by words and a device tree in memory: what the calls for C and the page's export
-//! share. The lines on a layout that was looked for are those of the program `oopsreport`.
+//! How images are laid out, by words and a device tree, and which layout is taken that an image shows: decided once,
+//! for the calls for C, the page's export and the program `oopsreport`. And the report of an image in memory, for the
+//! first two.
 #![tactic(auto)]
 
 mod answers;
@@ -11,6 +12,7 @@ mod words;
 
 pub use answers::{Asked, ReportAnswer, ReportEnd, report_in};
 pub use hints::{best_hint, taken_hint};
-pub use laying::{Layouts, NoLayouts, sought};
+pub use laying::{Layouts, LayoutsFault, NoLayouts, Place, Said, layouts_by};
 pub use memory::{Image, Text};
+pub use reports::{HintedPlan, Refusal, plan_found};
 pub use words::{WordsFault, fill, read_some_words, read_words_of};

@@ -2,8 +2,9 @@
 ghost use Rattle.std.specs.Prelude.{◌≡◌, IfOk, MatchResult};
 ghost use Rattle.report_entry.specs.declared.reports.Refusal.TheVariants.{Memory};
 ghost use Rattle.report_entry.specs.Memory.{image_bytes};
-ghost use Rattle.report_entry.specs.Reports.{IsUntaken, IsTakenPlan, IsFoundPlan, IsNotFound, IsPlanOf, IsNotPlanned};
-ghost use Rattle.report_entry.specs.Reports.{IsReportBy, IsNotReportedBy, IsReportOf, IsRefused};
+ghost use Rattle.report_entry.specs.Reports.{IsUntaken, IsTakenPlan, IsPlanFound, IsNotTaken, IsFoundPlan, IsNotFound};
+ghost use Rattle.report_entry.specs.Reports.{IsPlanOf, IsNotPlanned, IsReportBy, IsNotReportedBy, IsReportOf};
+ghost use Rattle.report_entry.specs.Reports.{IsRefused};
 
 use crate::hints::{best_hint, taken_hint};
 use crate::laying::{Layouts, NoLayouts, layout_by};
@@ -16,8 +17,8 @@ use std::alloc::{AllocError, Global};
 /// The plan by which an image is read, and what is told of it: lines, or nothing.
 #[derive(Drop)]
 pub struct HintedPlan {
-    plan: Plan,
-    hint: String,
+    pub plan: Plan,
+    pub hint: String,
 }
 
 /// A report: a text, whose first `hint` bytes are the lines on a layout that was looked for.
@@ -75,6 +76,22 @@ fn taken(alloc: Global, name: &str, size: u64, found: &Found) -> Result<HintedPl
     }
 }
 
+/// The plan of a layout that was found, with the lines on it, if it explains the image; else why it is not taken. A
+/// layout that explains itself is taken though others were not tried: a line says so.
+pub fn plan_found(
+    alloc: Global,
+    name: &str,
+    size: u64,
+    found: &Found,
+) -> Result<HintedPlan, Refusal>
+    ensures { MatchResult result (IsPlanFound name.now size found.now) (IsNotTaken name.now size found.now) }
+{
+    if found.taken {
+        return taken(alloc, name, size, found);
+    }
+    Err(untaken(alloc, name, size, found)?)
+}
+
 // The plan of the layout that the image shows.
 fn found_plan(
     alloc: Global,
@@ -92,10 +109,7 @@ fn found_plan(
         Ok(None) => return Err(Refusal::NotFound),
         Err(_) => return Err(Refusal::Memory),
     };
-    if found.taken && found.whole {
-        return taken(alloc, name, size, &found);
-    }
-    Err(untaken(alloc, name, size, &found)?)
+    plan_found(alloc, name, size, &found)
 }
 
 // The plan by which the image is read.

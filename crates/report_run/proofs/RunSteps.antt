@@ -1,0 +1,58 @@
+-- The images, one after another. For the loop of `run`.
+use Rattle.std.proofs.Common.{◌≡◌, ℕ, suc, ◌+◌, ◌<◌, ◌≤◌, List, [], ◌∷◌, length, drop, Option, Bool, refl, sym, ap, ◌∙◌}
+use Rattle.std.proofs.Common.{subst, drop-cons, get_or, add-one, string_bytes, false}
+use Rattle.std.proofs.lemmas.List.{drop_all}
+use Rattle.std.specs.declared.string.String.{String}
+use Rattle.std.specs.declared.alloc.Global.{Global}
+use Rattle.report_run.specs.declared.plans.Asked.{Asked}
+use Rattle.report_run.specs.Runs.{State, most_of, IsStep, AreSteps}
+
+module _ (asked : Asked) (content : List ℕ → ℕ → Option (List ℕ)) (paths : List (String Global)) (start : State) where
+  -- what the images from a place on do, those before have led to
+  abbrev pub Continues : ℕ → State → Bool → Type 0
+  Continues i s failed =
+      (after : State) (now : Bool) → AreSteps asked content (length paths) i (drop i paths) s failed after now
+      → AreSteps asked content (length paths) 0 paths start false after now
+
+  pub none_run : Continues 0 start false
+  none_run = λ after now steps. steps
+
+  next : (i : ℕ) (path : String Global) (s m : State) (was failed : Bool) → i < length paths
+      → path ≡ get_or paths i path
+      → IsStep asked i (length paths) (string_bytes path) (content (string_bytes path) (most_of asked.layouts)) s m was
+      failed → Continues i s was → Continues (i + 1) m failed
+  unfolding AreSteps
+  next i path s m was failed inside is_path step so_far =
+      λ after now steps. so_far after now
+      (subst (λ (ps : List (String Global)). AreSteps asked content (length paths) i ps s was after now)
+      (sym (drop-cons paths i path inside ∙ ap (λ p. p ∷ drop (suc i) paths) (sym is_path)
+      ∙ ap (λ k. path ∷ drop k paths) (sym (add-one i))))
+      (joined after now steps))
+    where
+      joined : (after : State) (now : Bool)
+          → AreSteps asked content (length paths) (i + 1) (drop (i + 1) paths) m failed after now
+          → AreSteps asked content (length paths) i (path ∷ drop (i + 1) paths) s was after now
+      joined after now steps = (m, failed, step, steps)
+
+  pub one_run : (i : ℕ) (path : String Global) (text : List ℕ) (held : List ℕ → ℕ → Option (List ℕ)) (s m : State)
+      (was failed : Bool) → i < length paths → path ≡ get_or paths i path → text ≡ string_bytes path → held ≡ content
+      → IsStep asked i (length paths) text (held text (most_of asked.layouts)) s m was failed
+      → Continues i s was → Continues (i + 1) m failed
+  one_run i path text held s m was failed inside is_path is_text same step so_far =
+      next i path s m was failed inside is_path
+      (subst (λ (t : List ℕ). IsStep asked i (length paths) t (content t (most_of asked.layouts)) s m was failed)
+      is_text
+      (subst (λ (f : List ℕ → ℕ → Option (List ℕ)). IsStep asked i (length paths) text
+      (f text (most_of asked.layouts)) s m was failed) same step))
+      so_far
+
+  pub all_run : (i : ℕ) (s : State) (failed : Bool) → length paths ≤ i → Continues i s failed
+      → AreSteps asked content (length paths) 0 paths start false s failed
+  unfolding AreSteps
+  all_run i s failed behind so_far =
+      so_far s failed (subst (λ (ps : List (String Global)). AreSteps asked content (length paths) i ps s failed s
+      failed)
+      (sym (drop_all i paths behind)) stays)
+    where
+      stays : AreSteps asked content (length paths) i [] s failed s failed
+      stays = (refl, refl)

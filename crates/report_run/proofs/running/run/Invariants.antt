@@ -1,0 +1,19 @@
+-- The images so far were reported, and the others are not begun. For the loop of `run`.
+use Rattle.std.proofs.Common.{◌≡◌}
+use Rattle.report_run.specs.Messages.{seen}
+use Rattle.report_run.specs.Runs.{state}
+use Rattle.report_run.proofs.RunSteps.{Continues}
+use Rattle.report_run.proofs.running.run.Given as goal
+
+abbrev pub invariant-loop-i : goal.invariant-loop-i
+invariant-loop-i g l =
+    Continues l.asked (g.I.Images.content l.initial.images) l.paths
+    (state (g.O.Sink.given l.initial.out) (g.O.Sink.faults l.initial.out)
+    (seen (g.E.Sink.given l.initial.messages.errors) (g.E.Sink.faults l.initial.messages.errors)
+    l.initial.messages.is_lost) (g.F.Records.made l.initial.records))
+    l.i
+    (state (g.O.Sink.given l.out) (g.O.Sink.faults l.out)
+    (seen (g.E.Sink.given l.messages.errors) (g.E.Sink.faults l.messages.errors) l.messages.is_lost)
+    (g.F.Records.made l.records))
+    l.failed
+    × (g.I.Images.content l.images ≡ g.I.Images.content l.initial.images)

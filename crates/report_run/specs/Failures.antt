@@ -1,0 +1,11 @@
+-- Why a report by a plan was not made
+use Rattle.command_spec.specs.declared.Stop.{Stop}
+use Rattle.command_spec.specs.declared.Stop.TheVariants.{Short as TooShort, ImageFault, SinkFault}
+use Rattle.report_run.specs.declared.failures.Failure.{Failure}
+use Rattle.report_run.specs.declared.failures.Failure.TheVariants.{Memory, Unread, Unwritten, Short}
+
+abbrev pub stop_failure : Stop → Failure
+stop_failure (TooShort has needed) = Short has needed
+stop_failure ImageFault = Unread
+stop_failure SinkFault = Unwritten
+stop_failure other = Memory

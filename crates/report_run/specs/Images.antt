@@ -1,0 +1,127 @@
+-- The report of one image, and why there is none
+use Rattle.std.specs.Prelude.{◌≡◌, ◌⊎◌, ◌≤◌, ℕ, List, Option, string_bytes}
+use Rattle.std.specs.Io.KnownBytes.{Appends}
+use Rattle.outside.specs.Outside.{Rose, AppendsFront}
+use Rattle.command_spec.specs.declared.Stop.{Stop}
+use Rattle.layout_spec.specs.declared.Known.{Known}
+use Rattle.region_report.specs.Reports.{ReportHeld}
+use Rattle.report_tool.specs.declared.plan.Plan.{Plan}
+use Rattle.report_tool.specs.declared.showing.Format.{Format}
+use Rattle.report_tool.specs.declared.showing.Format.TheVariants.{Text}
+use Rattle.report_tool.specs.Images.{IsReported, IsNotReported}
+use Rattle.report_entry.specs.declared.reports.HintedPlan.{HintedPlan}
+use Rattle.report_entry.specs.declared.laying.Layouts.{Layouts}
+use Rattle.report_entry.specs.declared.laying.Layouts.TheVariants.{Given, Sought}
+use Rattle.report_run.specs.declared.plans.Asked.{Asked}
+use Rattle.report_run.specs.declared.failures.Failure.{Failure}
+use Rattle.report_run.specs.declared.failures.Failure.TheVariants.{Unwritten}
+use Rattle.report_run.specs.Failures.{stop_failure}
+use Rattle.report_run.specs.Messages.{Seen, IsTold}
+use Rattle.report_run.specs.Plans.{IsAskedPlan, IsNotSought}
+
+-- ---- the lines on a layout: to standard output above a text, and else to standard error
+
+pub record IsAbove (lines : List ℕ) (given now : Option (List ℕ)) (before after : ℕ) (a b : Seen) : Type 0 where
+  pub put : Appends given now lines
+  pub no_fault : after ≡ before
+  pub silent : b ≡ a
+
+pub record IsAside (lines : List ℕ) (given now : Option (List ℕ)) (before after : ℕ) (a b : Seen) : Type 0 where
+  pub unput : now ≡ given
+  pub no_fault : after ≡ before
+  pub told : IsTold lines a b
+
+abbrev pub TellsLayout : Format → List ℕ → Option (List ℕ) → Option (List ℕ) → ℕ → ℕ → Seen → Seen → Type 0
+TellsLayout Text lines given now before after a b = IsAbove lines given now before after a b
+TellsLayout other lines given now before after a b = IsAside lines given now before after a b
+
+-- standard output failed
+pub record IsCutOff (lines : List ℕ) (given now : Option (List ℕ)) (before after : ℕ) (a b : Seen) (why : Failure)
+    : Type 0 where
+  pub put : AppendsFront given now lines
+  pub fault : Rose before after
+  pub silent : b ≡ a
+  pub why_is : why ≡ Unwritten
+
+abbrev pub IsNotTold : Format → List ℕ → Option (List ℕ) → Option (List ℕ) → ℕ → ℕ → Seen → Seen → Failure → Type 0
+IsNotTold Text lines given now before after a b why = IsCutOff lines given now before after a b why
+IsNotTold other lines given now before after a b why = ⊥
+
+-- ---- the report by a plan
+
+pub record IsStopped (format : Format) (path : List ℕ) (plan : Plan) (holds : Option (List ℕ))
+    (read_before read_now : ℕ) (given now : Option (List ℕ)) (put_before put_now : ℕ) (why : Failure) : Type 0 where
+  pub stop : Stop
+  pub cause : IsNotReported format path plan stop holds read_before read_now given now put_before put_now
+  pub why_is : why ≡ stop_failure stop
+
+-- ---- an image whose layout is looked for
+
+pub record IsSoughtReport (asked : Asked) (known : Known) (path : List ℕ) (holds given now : Option (List ℕ))
+    (a b : Seen) (report : ReportHeld) : Type 0 where
+  pub told : HintedPlan
+  pub planned : IsAskedPlan asked known path holds told
+  pub between : Option (List ℕ)
+  pub faults : ℕ
+  pub lines : TellsLayout asked.format (string_bytes told.hint) given between faults faults a b
+  pub reported : IsReported asked.format path told.plan holds between now report
+
+-- there is no plan: nothing was given out
+pub record IsUnplanned (known : Known) (path : List ℕ) (holds : Option (List ℕ)) (read_before read_now : ℕ)
+    (given now : Option (List ℕ)) (a b : Seen) (why : Failure) : Type 0 where
+  pub cause : IsNotSought known path holds read_before read_now why
+  pub unput : now ≡ given
+  pub silent : b ≡ a
+
+-- or the lines on the layout failed
+pub record IsUntold (asked : Asked) (known : Known) (path : List ℕ) (holds given now : Option (List ℕ))
+    (put_before put_now : ℕ) (a b : Seen) (why : Failure) : Type 0 where
+  pub told : HintedPlan
+  pub planned : IsAskedPlan asked known path holds told
+  pub cause : IsNotTold asked.format (string_bytes told.hint) given now put_before put_now a b why
+
+-- or the report by the plan did, behind the lines
+pub record IsUnreported (asked : Asked) (known : Known) (path : List ℕ) (holds : Option (List ℕ))
+    (read_before read_now : ℕ) (given now : Option (List ℕ)) (put_before put_now : ℕ) (a b : Seen) (why : Failure)
+    : Type 0 where
+  pub told : HintedPlan
+  pub planned : IsAskedPlan asked known path holds told
+  pub between : Option (List ℕ)
+  pub lines : TellsLayout asked.format (string_bytes told.hint) given between put_before put_before a b
+  pub read_between : ℕ
+  pub later : read_before ≤ read_between
+  pub cause : IsStopped asked.format path told.plan holds read_between read_now between now put_before put_now why
+
+abbrev pub IsNoSoughtReport : Asked → Known → List ℕ → Option (List ℕ) → ℕ → ℕ → Option (List ℕ) → Option (List ℕ)
+    → ℕ → ℕ → Seen → Seen → Failure → Type 0
+IsNoSoughtReport asked known path holds read_before read_now given now put_before put_now a b why =
+    IsUnplanned known path holds read_before read_now given now a b why
+    ⊎ (IsUntold asked known path holds given now put_before put_now a b why
+    ⊎ IsUnreported asked known path holds read_before read_now given now put_before put_now a b why)
+
+-- ---- any image
+
+pub record IsGivenReport (asked : Asked) (plan : Plan) (path : List ℕ) (holds given now : Option (List ℕ)) (a b : Seen)
+    (report : ReportHeld) : Type 0 where
+  pub reported : IsReported asked.format path plan holds given now report
+  pub silent : b ≡ a
+
+abbrev pub IsReport : Layouts → Asked → List ℕ → Option (List ℕ) → Option (List ℕ) → Option (List ℕ) → Seen → Seen
+    → ReportHeld → Type 0
+IsReport (Given plan) asked path holds given now a b report =
+    IsGivenReport asked plan path holds given now a b report
+IsReport (Sought known) asked path holds given now a b report =
+    IsSoughtReport asked known path holds given now a b report
+
+pub record IsNoGivenReport (asked : Asked) (plan : Plan) (path : List ℕ) (holds : Option (List ℕ))
+    (read_before read_now : ℕ) (given now : Option (List ℕ)) (put_before put_now : ℕ) (a b : Seen) (why : Failure)
+    : Type 0 where
+  pub cause : IsStopped asked.format path plan holds read_before read_now given now put_before put_now why
+  pub silent : b ≡ a
+
+abbrev pub IsNoReport : Layouts → Asked → List ℕ → Option (List ℕ) → ℕ → ℕ → Option (List ℕ) → Option (List ℕ)
+    → ℕ → ℕ → Seen → Seen → Failure → Type 0
+IsNoReport (Given plan) asked path holds read_before read_now given now put_before put_now a b why =
+    IsNoGivenReport asked plan path holds read_before read_now given now put_before put_now a b why
+IsNoReport (Sought known) asked path holds read_before read_now given now put_before put_now a b why =
+    IsNoSoughtReport asked known path holds read_before read_now given now put_before put_now a b why

@@ -1,0 +1,5 @@
+pub mod Failures
+pub mod Messages
+pub mod Plans
+pub mod Images
+pub mod Runs

@@ -1,0 +1,77 @@
+-- What standard error is given
+use Rattle.std.specs.Prelude.{◌≡◌, ◌⊎◌, ℕ, Bool, true, false, List, [], ◌∷◌, codes, decimal, string_bytes, Option}
+use Rattle.std.specs.Io.KnownBytes.{Appends}
+use Rattle.outside.specs.Outside.{Rose, AppendsFront}
+use Rattle.report_run.specs.declared.failures.Failure.{Failure}
+use Rattle.report_run.specs.declared.failures.Failure.TheVariants.{Memory, Unopened, Unread, Unwritten, Short, NotFound}
+use Rattle.report_run.specs.declared.failures.Failure.TheVariants.{Unexplained, Unfinished, Unsaved}
+
+-- what it was given, how often it failed, and whether something of a line was lost
+pub record Seen : Type 0 where
+  pub given : Option (List ℕ)
+  pub faults : ℕ
+  pub is_lost : Bool
+
+abbrev pub seen : Option (List ℕ) → ℕ → Bool → Seen
+seen given faults is_lost = record { given = given; faults = faults; is_lost = is_lost }
+
+-- it took this text
+pub record Takes (text : List ℕ) (a b : Seen) : Type 0 where
+  pub given : Appends a.given b.given text
+  pub faults : b.faults ≡ a.faults
+  pub lost : b.is_lost ≡ a.is_lost
+
+-- or it failed, and took some front of it: that is remembered
+pub record Loses (text : List ℕ) (a b : Seen) : Type 0 where
+  pub given : AppendsFront a.given b.given text
+  pub faults : Rose a.faults b.faults
+  pub lost : b.is_lost ≡ true
+
+abbrev pub IsTold : List ℕ → Seen → Seen → Type 0
+IsTold text a b = Takes text a b ⊎ Loses text a b
+
+-- these texts, one after another
+abbrev pub AreTold : List (List ℕ) → Seen → Seen → Type 0
+AreTold [] a b = b ≡ a
+AreTold (text ∷ texts) a b = (m : Seen) × IsTold text a m × AreTold texts m b
+
+-- how many of all images came before, if that is shown
+abbrev pub place_line : ℕ → ℕ → List (List ℕ)
+place_line done all = (13 ∷ []) ∷ decimal done ∷ codes " of " ∷ decimal all ∷ codes " " ∷ []
+
+abbrev pub IsCounted : Bool → ℕ → ℕ → Seen → Seen → Type 0
+IsCounted true done all a b = AreTold (place_line done all) a b
+IsCounted false done all a b = b ≡ a
+
+-- that all were looked at
+abbrev pub IsEnded : Bool → ℕ → Seen → Seen → Type 0
+IsEnded true all a b = (m : Seen) × AreTold (place_line all all) a m × IsTold (10 ∷ []) m b
+IsEnded false all a b = b ≡ a
+
+-- a line on an image
+abbrev pub line_of : List ℕ → List ℕ → List (List ℕ)
+line_of path why = codes "oopsreport: " ∷ path ∷ codes ": " ∷ why ∷ (10 ∷ []) ∷ []
+
+abbrev pub short_line : List ℕ → ℕ → ℕ → List (List ℕ)
+short_line path has needed =
+    codes "oopsreport: " ∷ path ∷ codes ": it has " ∷ decimal has ∷ codes " bytes, and the layout needs "
+    ∷ decimal needed ∷ (10 ∷ []) ∷ []
+
+-- the line on the best layout, and the next
+abbrev pub IsBestTold : List ℕ → List (List ℕ) → Seen → Seen → Type 0
+IsBestTold best line a b = (m : Seen) × AreTold (codes "oopsreport: " ∷ best ∷ []) a m × AreTold line m b
+
+-- the message on each failure
+abbrev pub IsMessage : List ℕ → Failure → Seen → Seen → Type 0
+IsMessage path Memory a b = AreTold (line_of path (codes "memory allocation failed")) a b
+IsMessage path (Unopened why) a b = AreTold (line_of path (string_bytes why)) a b
+IsMessage path Unread a b = AreTold (line_of path (codes "it could not be read")) a b
+IsMessage path Unwritten a b = AreTold (line_of path (codes "standard output could not be written")) a b
+IsMessage path (Short has needed) a b = AreTold (short_line path has needed) a b
+IsMessage path NotFound a b =
+    AreTold (line_of path (codes "no layout was found; give it by --param, --cmdline or --dtb")) a b
+IsMessage path (Unexplained best) a b = IsBestTold (string_bytes best)
+    (line_of path (codes "no layout explains it; give it by --param, --cmdline or --dtb")) a b
+IsMessage path (Unfinished best) a b = IsBestTold (string_bytes best)
+    (line_of path (codes "not all layouts were tried; give it by --param, --cmdline or --dtb")) a b
+IsMessage path (Unsaved why) a b = AreTold (line_of path (string_bytes why)) a b

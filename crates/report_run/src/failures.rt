@@ -1,0 +1,50 @@
+// Why an image is not reported, or its records are not saved.
+ghost use Rattle.std.specs.Prelude.{◌≡◌};
+ghost use Rattle.report_run.specs.Failures.{stop_failure};
+
+use command_spec::Stop;
+use std::alloc::AllocError;
+
+/// Why an image is not reported, or its records are not saved.
+#[derive(Debug, Drop)]
+pub enum Failure {
+    Memory,
+    /// The image could not be opened, for this reason.
+    Unopened(String),
+    /// It could not be read.
+    Unread,
+    /// Standard output failed.
+    Unwritten,
+    /// It has fewer bytes than its layout needs.
+    Short { has: u64, needed: u32 },
+    /// No layout agrees with what is known.
+    NotFound,
+    /// The line on the best layout, which does not explain the image.
+    Unexplained(String),
+    /// The same, and not all layouts were tried.
+    Unfinished(String),
+    /// A record was not saved, for this reason.
+    Unsaved(String),
+}
+
+impl From<AllocError> for Failure {
+    ghost use Rattle.report_run.specs.declared.failures.Failure.TheVariants.{Memory};
+
+    ghost from_gives = { λ _ e. e ≡ Memory };
+
+    fn from(_: AllocError) -> Failure {
+        Failure::Memory
+    }
+}
+
+/// Why a report by a plan was not made.
+pub fn stop_failure(stop: Stop) -> Failure
+    ensures { result ≡ stop_failure stop }
+{
+    match stop {
+        Stop::Short { has, needed } => Failure::Short { has, needed },
+        Stop::ImageFault => Failure::Unread,
+        Stop::SinkFault => Failure::Unwritten,
+        _ => Failure::Memory,
+    }
+}

@@ -1,0 +1,115 @@
+// One image, from what holds it to the two outputs.
+ghost use Rattle.std.specs.Prelude.{◌≡◌, ◌≤◌, MatchResult};
+ghost use Rattle.report_run.specs.Messages.{seen};
+ghost use Rattle.report_run.specs.Images.{TellsLayout, IsNotTold, IsStopped, IsSoughtReport, IsNoSoughtReport};
+ghost use Rattle.report_run.specs.Images.{IsReport, IsNoReport};
+ghost use Rattle.report_tool.specs.Images.{IsReported};
+
+use crate::failures::{Failure, stop_failure};
+use crate::messages::Messages;
+use crate::plans::{Asked, sought_plan};
+use outside::{Failed, Load, Sink};
+use region_report::Report;
+use report_entry::Layouts;
+use report_tool::{Format, Known, Plan, report};
+use std::alloc::Global;
+
+/// Lines on the layout: above a text, and else to standard error, so that no layout is taken in silence.
+pub fn tell_layout<O: Sink, E: Sink>(
+    format: Format,
+    lines: &str,
+    out: &mut O,
+    messages: &mut Messages<E>,
+) -> Result<(), Failure>
+    ensures { MatchResult result
+        (λ _. TellsLayout format lines.now (O.given out.old) (O.given out.new) (O.faults out.old) (O.faults out.new)
+        (seen (E.given messages.old.errors) (E.faults messages.old.errors) messages.old.is_lost)
+        (seen (E.given messages.new.errors) (E.faults messages.new.errors) messages.new.is_lost))
+        (IsNotTold format lines.now (O.given out.old) (O.given out.new) (O.faults out.old) (O.faults out.new)
+        (seen (E.given messages.old.errors) (E.faults messages.old.errors) messages.old.is_lost)
+        (seen (E.given messages.new.errors) (E.faults messages.new.errors) messages.new.is_lost)) }
+{
+    match format {
+        Format::Text => match out.put(lines.as_bytes()) {
+            Ok(()) => Ok(()),
+            Err(Failed) => Err(Failure::Unwritten),
+        },
+        _ => {
+            messages.tell(lines.as_bytes());
+            Ok(())
+        }
+    }
+}
+
+/// The report of an image by a plan.
+pub fn report_by<M: Load, O: Sink>(
+    alloc: Global,
+    plan: &Plan,
+    format: Format,
+    path: &str,
+    image: &mut M,
+    out: &mut O,
+) -> Result<Report, Failure>
+    ensures reported { MatchResult result
+        (IsReported format path.now plan.now (M.holds image.old) (O.given out.old) (O.given out.new))
+        (IsStopped format path.now plan.now (M.holds image.old) (M.faults image.old) (M.faults image.new)
+        (O.given out.old) (O.given out.new) (O.faults out.old) (O.faults out.new)) }
+    ensures same { M.holds image.new ≡ M.holds image.old }
+    ensures later { M.faults image.old ≤ M.faults image.new }
+{
+    match report(alloc, plan, format, path, image, out) {
+        Ok(report) => Ok(report),
+        Err(stop) => Err(stop_failure(stop)),
+    }
+}
+
+// The report of an image whose layout is looked for.
+fn sought_report<M: Load, O: Sink, E: Sink>(
+    alloc: Global,
+    asked: &Asked,
+    known: &Known,
+    path: &str,
+    image: &mut M,
+    out: &mut O,
+    messages: &mut Messages<E>,
+) -> Result<Report, Failure>
+    ensures reported { MatchResult result
+        (IsSoughtReport asked.now known.now path.now (M.holds image.old) (O.given out.old) (O.given out.new)
+        (seen (E.given messages.old.errors) (E.faults messages.old.errors) messages.old.is_lost)
+        (seen (E.given messages.new.errors) (E.faults messages.new.errors) messages.new.is_lost))
+        (IsNoSoughtReport asked.now known.now path.now (M.holds image.old) (M.faults image.old) (M.faults image.new)
+        (O.given out.old) (O.given out.new) (O.faults out.old) (O.faults out.new)
+        (seen (E.given messages.old.errors) (E.faults messages.old.errors) messages.old.is_lost)
+        (seen (E.given messages.new.errors) (E.faults messages.new.errors) messages.new.is_lost)) }
+    ensures same { M.holds image.new ≡ M.holds image.old }
+{
+    let told = sought_plan(alloc, asked, known, path, image)?;
+    tell_layout(asked.format, &told.hint, out, messages)?;
+    report_by(alloc, &told.plan, asked.format, path, image, out)
+}
+
+/// The report of an image: the lines on its layout, where that is looked for, and then what the format shows. A text
+/// has the lines above it; else standard error is given them.
+pub fn report_image<M: Load, O: Sink, E: Sink>(
+    alloc: Global,
+    asked: &Asked,
+    path: &str,
+    image: &mut M,
+    out: &mut O,
+    messages: &mut Messages<E>,
+) -> Result<Report, Failure>
+    ensures reported { MatchResult result
+        (IsReport asked.now.layouts asked.now path.now (M.holds image.old) (O.given out.old) (O.given out.new)
+        (seen (E.given messages.old.errors) (E.faults messages.old.errors) messages.old.is_lost)
+        (seen (E.given messages.new.errors) (E.faults messages.new.errors) messages.new.is_lost))
+        (IsNoReport asked.now.layouts asked.now path.now (M.holds image.old) (M.faults image.old)
+        (M.faults image.new) (O.given out.old) (O.given out.new) (O.faults out.old) (O.faults out.new)
+        (seen (E.given messages.old.errors) (E.faults messages.old.errors) messages.old.is_lost)
+        (seen (E.given messages.new.errors) (E.faults messages.new.errors) messages.new.is_lost)) }
+    ensures same { M.holds image.new ≡ M.holds image.old }
+{
+    match &asked.layouts {
+        Layouts::Given(plan) => report_by(alloc, plan, asked.format, path, image, out),
+        Layouts::Sought(known) => sought_report(alloc, asked, known, path, image, out, messages),
+    }
+}

@@ -1,0 +1,153 @@
+// Lines to standard error.
+ghost use Rattle.std.specs.Prelude.{◌≡◌, [], ◌∷◌, codes, false};
+ghost use Rattle.report_run.specs.Messages.{seen, IsTold, AreTold, place_line, IsCounted, IsEnded, line_of, short_line};
+ghost use Rattle.report_run.specs.Messages.{IsBestTold, IsMessage};
+
+use crate::failures::Failure;
+use itoa::Buffer;
+use outside::Sink;
+
+/// Standard error. A piece of a line that it does not take costs no report, and is remembered.
+#[derive(Drop)]
+pub struct Messages<E: Sink> {
+    pub errors: E,
+    pub is_lost: bool,
+}
+
+impl<E: Sink> Messages<E> {
+    /// Nothing is lost yet.
+    pub fn new(errors: E) -> Messages<E>
+        ensures errors { result.errors ≡ errors }
+        ensures lost { result.is_lost ≡ false }
+    {
+        Messages {
+            errors,
+            is_lost: false,
+        }
+    }
+
+    /// Gives a text out.
+    pub fn tell(&mut self, text: &[u8])
+        ensures { IsTold text.now (seen (E.given self.old.errors) (E.faults self.old.errors) self.old.is_lost)
+            (seen (E.given self.new.errors) (E.faults self.new.errors) self.new.is_lost) }
+    {
+        if self.errors.put(text).is_err() {
+            self.is_lost = true;
+        }
+    }
+
+    // How many of all images came before.
+    fn tell_place(&mut self, done: usize, all: usize)
+        ensures { AreTold (place_line done all)
+            (seen (E.given self.old.errors) (E.faults self.old.errors) self.old.is_lost)
+            (seen (E.given self.new.errors) (E.faults self.new.errors) self.new.is_lost) }
+    {
+        self.tell(b"\r");
+        let mut number = Buffer::new();
+        self.tell(number.format(done).as_bytes());
+        self.tell(b" of ");
+        let mut number = Buffer::new();
+        self.tell(number.format(all).as_bytes());
+        self.tell(b" ");
+    }
+
+    /// How many of all images came before, if that is shown.
+    pub fn tell_count(&mut self, is_shown: bool, done: usize, all: usize)
+        ensures { IsCounted is_shown done all
+            (seen (E.given self.old.errors) (E.faults self.old.errors) self.old.is_lost)
+            (seen (E.given self.new.errors) (E.faults self.new.errors) self.new.is_lost) }
+    {
+        if is_shown {
+            self.tell_place(done, all);
+        }
+    }
+
+    /// That all images were looked at, if that is shown.
+    pub fn tell_end(&mut self, is_shown: bool, all: usize)
+        ensures { IsEnded is_shown all
+            (seen (E.given self.old.errors) (E.faults self.old.errors) self.old.is_lost)
+            (seen (E.given self.new.errors) (E.faults self.new.errors) self.new.is_lost) }
+    {
+        if is_shown {
+            self.tell_place(all, all);
+            self.tell(b"\n");
+        }
+    }
+
+    // A line on an image.
+    fn tell_line(&mut self, path: &str, why: &str)
+        ensures { AreTold (line_of path.now why.now)
+            (seen (E.given self.old.errors) (E.faults self.old.errors) self.old.is_lost)
+            (seen (E.given self.new.errors) (E.faults self.new.errors) self.new.is_lost) }
+    {
+        self.tell(b"oopsreport: ");
+        self.tell(path.as_bytes());
+        self.tell(b": ");
+        self.tell(why.as_bytes());
+        self.tell(b"\n");
+    }
+
+    // The line on an image that is too short.
+    fn tell_short(&mut self, path: &str, has: u64, needed: u32)
+        ensures { AreTold (short_line path.now has needed)
+            (seen (E.given self.old.errors) (E.faults self.old.errors) self.old.is_lost)
+            (seen (E.given self.new.errors) (E.faults self.new.errors) self.new.is_lost) }
+    {
+        self.tell(b"oopsreport: ");
+        self.tell(path.as_bytes());
+        self.tell(b": it has ");
+        let mut number = Buffer::new();
+        self.tell(number.format(has).as_bytes());
+        self.tell(b" bytes, and the layout needs ");
+        let mut number = Buffer::new();
+        self.tell(number.format(needed).as_bytes());
+        self.tell(b"\n");
+    }
+
+    // The line on the best layout, and why it is not taken.
+    fn tell_best(&mut self, path: &str, best: &str, why: &str)
+        ensures { IsBestTold best.now (line_of path.now why.now)
+            (seen (E.given self.old.errors) (E.faults self.old.errors) self.old.is_lost)
+            (seen (E.given self.new.errors) (E.faults self.new.errors) self.new.is_lost) }
+    {
+        self.tell(b"oopsreport: ");
+        self.tell(best.as_bytes());
+        self.tell_line(path, why);
+    }
+
+    /// Why an image was not reported, or its records not saved.
+    pub fn tell_failure(&mut self, path: &str, failure: &Failure)
+        ensures { IsMessage path.now failure.now
+            (seen (E.given self.old.errors) (E.faults self.old.errors) self.old.is_lost)
+            (seen (E.given self.new.errors) (E.faults self.new.errors) self.new.is_lost) }
+    {
+        match failure {
+            Failure::Memory => self.tell_line(path, "memory allocation failed"),
+            Failure::Unopened(why) => self.tell_line(path, why),
+            Failure::Unread => self.tell_line(path, "it could not be read"),
+            Failure::Unwritten => self.tell_line(path, "standard output could not be written"),
+            Failure::Short { has, needed } => self.tell_short(path, *has, *needed),
+            Failure::NotFound => {
+                self.tell_line(
+                    path,
+                    "no layout was found; give it by --param, --cmdline or --dtb",
+                );
+            }
+            Failure::Unexplained(best) => {
+                self.tell_best(
+                    path,
+                    best,
+                    "no layout explains it; give it by --param, --cmdline or --dtb",
+                );
+            }
+            Failure::Unfinished(best) => {
+                self.tell_best(
+                    path,
+                    best,
+                    "not all layouts were tried; give it by --param, --cmdline or --dtb",
+                );
+            }
+            Failure::Unsaved(why) => self.tell_line(path, why),
+        }
+    }
+}
