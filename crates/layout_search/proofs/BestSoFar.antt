@@ -4,7 +4,8 @@ use Rattle.std.proofs.Common.{[], ◌∷◌, length, get_or, Option, Some, None,
 use Rattle.std.proofs.Common.{below_more, take, ◌⊎◌, inl, inr}
 use Rattle.std.specs.Prelude.{MatchOption, unwrap_or}
 use Rattle.std.specs.Prelude.{nat_le, sum_by}
-use Rattle.std.proofs.lemmas.Bool.{and_parts, or_parts, false_from_ne_true, ltb-false, le-leb, lt-leb, eqb-false, eqb-true}
+use Rattle.std.proofs.lemmas.Bool.{and_parts, or_parts, false_from_ne_true, ltb-false, le-leb, lt-leb, eqb-false}
+use Rattle.std.proofs.lemmas.Bool.{eqb-true}
 use Rattle.layout_spec.specs.declared.Candidate.{Candidate}
 use Rattle.layout_spec.specs.declared.Known.{Known}
 use Rattle.layout_spec.specs.Laid.{params_of, zones_of, has_layout}
@@ -182,7 +183,8 @@ fewer_left level a b e f =
     let whole : length (levels_from a) ≡ length (level ∷ after level) = ap (λ o. length (levels_from o)) e in
     omega (arith, rest, whole)
 
-pub step_listed : (known : Known) (len : ℕ) (a b : Option Level) (level : Level) (c d : Candidate) (list : List ℕ) (k : ℕ)
+pub step_listed : (known : Known) (len : ℕ) (a b : Option Level) (level : Level) (c d : Candidate) (list : List ℕ)
+    (k : ℕ)
     → a ≡ Some level → b ≡ next level → d ≡ having level c (get_or list k 0) → list ≡ values level known len c
     → k < length list → Over known len (levels_from a) (IsListed known len) c
     → Over known len (levels_from b) (IsListed known len) d
@@ -262,7 +264,8 @@ before_same known len Q [] c a b same h = tt
 before_same known len Q (level ∷ levels) c a b same h = (
   (λ n m. h.0 n (subst (λ k. is_one_of n (take k (values level known len c)) ≡ true) same.0 m)),
   subst (λ k. OverBefore known len levels Q (having level c (get_or (values level known len c) k 0)) a) (sym same.0)
-      (before_same known len Q levels (having level c (get_or (values level known len c) (count_of level b) 0)) a b same.1 h.1),
+      (before_same known len Q levels (having level c (get_or (values level known len c) (count_of level b) 0))
+      a b same.1 h.1),
 )
 
 -- nothing is claimed of nowhere
@@ -277,7 +280,8 @@ before_nowhere known len Q (level ∷ levels) c = (
 )
 
 -- the walk ends at the value k of a word
-pub before_here : (known : Known) (image : List ℕ) (aim : Aim) (level : Level) (c : Candidate) (s : Progress) (r : Reached)
+pub before_here : (known : Known) (image : List ℕ) (aim : Aim) (level : Level) (c : Candidate) (s : Progress)
+    (r : Reached)
     (list : List ℕ) (k : ℕ) → list ≡ values level known (length image) c
     → ((j : ℕ) → j < k → SettledOver known image aim (after level) (having level c (get_or list j 0)) s)
     → SettledBefore known image aim (after level) (having level c (get_or list k 0)) s r
@@ -296,7 +300,8 @@ before_here known image aim level c s r list k e h inner =
     (same_after level r k) inner in
     let both : ((n : ℕ) → is_one_of n (take k (values level known len c)) ≡ true
     → Over known len (after level) Q (having level c n))
-    × OverBefore known len (after level) Q (having level c (get_or (values level known len c) k 0)) (counted level r k) =
+    × OverBefore known len (after level) Q (having level c (get_or (values level known len c) k 0))
+    (counted level r k) =
     subst (λ xs. ((n : ℕ) → is_one_of n (take k xs) ≡ true → Over known len (after level) Q (having level c n))
     × OverBefore known len (after level) Q (having level c (get_or xs k 0)) (counted level r k)) e (first, rest) in
     subst (λ m. ((n : ℕ) → is_one_of n (take m (values level known len c)) ≡ true
@@ -324,7 +329,8 @@ split_word known len Q level levels r c d e h walked =
     step false is w =
         let parts = and_parts (word level d == get_or (values level known len d) (count_of level r) 0) _ w in
         let same : word level d ≡ get_or (values level known len d) (count_of level r) 0 = eqb-true _ _ parts.0 in
-        let there : OverBefore known len levels Q (having level c (get_or (values level known len d) (count_of level r) 0)) r =
+        let there : OverBefore known len levels Q (having level c (get_or (values level known len d)
+        (count_of level r) 0)) r =
         subst (λ xs. OverBefore known len levels Q (having level c (get_or xs (count_of level r) 0)) r) e h.1 in
         inr (subst (λ n. OverBefore known len levels Q (having level c n) r) (sym same) there, parts.1)
 
@@ -505,7 +511,8 @@ walked_settled known image aim start s r h c walked = record {
       let c4 : Candidate = record c3 { ftrace = c.ftrace } in
       let c5 : Candidate = record c4 { pmsg = c.pmsg } in
       let c6 : Candidate = record c5 { cpus = c.cpus } in
-      let tags : TagsSettled known image aim s (record c { tag = start.tag }) = elim (split_word known len Q Mem (after Mem) r start c refl h walked) [
+      let tags : TagsSettled known image aim s (record c { tag = start.tag }) = elim (split_word known len Q Mem
+      (after Mem) r start c refl h walked) [
         | inl k ↦ k c.dump d.1 c.console o.1 c.ftrace f.1 c.pmsg p.1 c.cpus parts.cpus c.parity parts.parity
         | inr k ↦ elim (split_word known len Q Dump (after Dump) r c1 c refl k.0 k.1) [
           | inl k ↦ k c.console o.1 c.ftrace f.1 c.pmsg p.1 c.cpus parts.cpus c.parity parts.parity
@@ -529,7 +536,8 @@ walked_settled known image aim start s r h c walked = record {
       ] in (tags.all c.tag t).settled family few other;
 }
 
-pub part_settled : (known : Known) (image : List ℕ) (aim : Aim) (start : Candidate) (s : Progress) (stop : Option Reached)
+pub part_settled : (known : Known) (image : List ℕ) (aim : Aim) (start : Candidate) (s : Progress)
+    (stop : Option Reached)
     → MatchOption stop (SettledOver known image aim all_levels start s)
     (SettledBefore known image aim all_levels start s)
     → (c : Candidate) → is_walked known (length image) all_levels (unwrap_or stop nowhere) c ≡ true

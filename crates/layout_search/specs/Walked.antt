@@ -43,8 +43,8 @@ counted Parity r n = record r { parity = n }
 abbrev pub nowhere : Reached
 nowhere = record { mem = 0; dump = 0; console = 0; ftrace = 0; pmsg = 0; cpus = 0; parity = 0 }
 
--- a layout that the walk came by: its first word is among the values that were tried, or it is the next value, and so on
--- with the words after it
+-- a layout that the walk came by: its first word is among the values that were tried, or it is the next value, and the
+-- same holds of the words after it
 unfoldable pub is_walked : Known → ℕ → List Level → Reached → Candidate → Bool
 is_walked known len [] r c = false
 is_walked known len (level ∷ levels) r c =

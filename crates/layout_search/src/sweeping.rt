@@ -28,7 +28,8 @@ fn walk(
 ) -> Result<Option<Reached>, AllocError>
     requires aim { IsAim image.now aim.now }
     requires lists { AreLists known.now (length image.now) lists.now }
-    requires listed { Over known.now (length image.now) (levels_from level) (IsListed known.now (length image.now)) c.now }
+    requires listed { Over known.now (length image.now) (levels_from level) (IsListed known.now (length image.now))
+        c.now }
     requires passed { IsPassed level known.now (length image.now) c.now }
     requires sound { IsSound known.now image.now aim.now.besides state.old.best }
     ensures advances { OnOk result (Advances state.old state.new) }

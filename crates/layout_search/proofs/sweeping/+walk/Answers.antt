@@ -7,7 +7,8 @@ use Rattle.layout_search.specs.Tried.{IsSound, SettledOver, SettledBefore, TagsS
 use Rattle.layout_search.specs.declared.levels.Reached.{Reached}
 use Rattle.layout_search.specs.declared.levels.Level.{Level}
 use Rattle.layout_search.proofs.BestSoFar.{advances_trans, chosen_of, fewer_left, one_more, over_done, over_later}
-use Rattle.layout_search.proofs.BestSoFar.{over_last, over_none, step_listed, step_settled, step_before, stop_here, before_nowhere}
+use Rattle.layout_search.proofs.BestSoFar.{over_last, over_none, step_listed, step_settled, step_before, stop_here}
+use Rattle.layout_search.proofs.BestSoFar.{before_nowhere}
 use Rattle.layout_search.proofs.sweeping.+walk.Goals as goal
 
 pub try_tags-requires-clause-chosen : goal.try_tags-requires-clause-chosen
@@ -50,7 +51,8 @@ returns-then-state-eq0-clause-settled t c =
     let list = c.values-list.result.now in
     let s = c.spend.new.state in
     let here = having level c.args.c.now (get_or list c.loop-k.k 0) in
-    stop_here known image aim c.args.level level c.args.c.now s c.nowhere.result c.counted.result list c.loop-k.k c.in-Some.is
+    stop_here known image aim c.args.level level c.args.c.now s c.nowhere.result c.counted.result list c.loop-k.k
+    c.in-Some.is
     c.counted.ensures (c.values-list.ensures known (length image) c.requires.lists)
     (λ j lt. over_later known image aim (after level) _ c.loop-k.state s c.spend.ensures.advances
     (c.loop-k.invariant.settled j lt))
@@ -66,7 +68,8 @@ loop-k-preserved-then-not-may t c =
     let old = c.loop-k.invariant in
     let last = rw c.having-candidate.ensures at (c.in_ok-may.ensures.refused c.if-not-may.true s) in record {
       advances = advances_trans old.advances c.spend.ensures.advances;
-      settled = one_more known image aim c.in-Some.level c.args.c.now c.values-list.result.now c.loop-k.k c.loop-k.state s
+      settled = one_more known image aim c.in-Some.level c.args.c.now c.values-list.result.now c.loop-k.k
+          c.loop-k.state s
           c.spend.ensures.advances old.settled last;
       sound = subst (IsSound known image aim.besides) (sym c.spend.ensures.best) old.sound;
     }
@@ -81,7 +84,8 @@ returns-in-Some-stop-clause-settled t c =
     let s = c.walk.new.state in
     let adv = advances_trans c.spend.ensures.advances c.in_ok-stop.ensures.advances in
     let inner = c.in-Some-stop.inner in
-    stop_here known image aim c.args.level level c.args.c.now s inner c.counted-in-Some-stop.result list c.loop-k.k c.in-Some.is
+    stop_here known image aim c.args.level level c.args.c.now s inner c.counted-in-Some-stop.result list c.loop-k.k
+    c.in-Some.is
     c.counted-in-Some-stop.ensures (c.values-list.ensures known (length image) c.requires.lists)
     (λ j lt. over_later known image aim (after level) _ c.loop-k.state s adv (c.loop-k.invariant.settled j lt))
     (step_before known image aim c.next.result level c.args.c.now c.having-candidate.result
@@ -112,6 +116,7 @@ loop-k-preserved t c =
     (get_or list c.loop-k.k 0) s c.next.ensures c.having-candidate.ensures
     (rw c.in_default-stop.is at c.in_ok-stop.ensures.settled) in record {
       advances = advances_trans old.advances adv;
-      settled = one_more known image aim c.in-Some.level c.args.c.now list c.loop-k.k c.loop-k.state s adv old.settled last;
+      settled = one_more known image aim c.in-Some.level c.args.c.now list c.loop-k.k c.loop-k.state s adv
+          old.settled last;
       sound = c.in_ok-stop.ensures.sound;
     }

@@ -18,6 +18,7 @@ returns-clause-settled c = λ work d. record {
 pub returns-clause-part : goal.returns-clause-part
 returns-clause-part c = λ d walked. record {
   settled = (part_settled c.args.known.now c.args.image.now c.args.aim.now _ c.walk.new.state c.in_ok-stop.stop
-      c.in_ok-stop.ensures.settled d (subst (λ (r : Reached). is_walked c.args.known.now (length c.args.image.now) all_levels r d
+      c.in_ok-stop.ensures.settled d (subst (λ (r : Reached). is_walked c.args.known.now (length c.args.image.now)
+      all_levels r d
       ≡ true) (c.unwrap_or-state.ensures ∙ ap (unwrap_or c.in_ok-stop.stop) c.nowhere.ensures) walked)).settled;
 }
