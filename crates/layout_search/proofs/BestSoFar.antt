@@ -1,9 +1,11 @@
 -- The best so far
 use Rattle.std.proofs.Common.{◌≡◌, ℕ, ◌+◌, ◌<◌, ◌≤◌, Bool, true, false, ◌&&◌, ◌||◌, ◌==◌, nat_lt, if◌then◌else◌, List}
 use Rattle.std.proofs.Common.{[], ◌∷◌, length, get_or, Option, Some, None, refl, sym, ap, ◌∙◌, subst, arith, true≢false}
-use Rattle.std.proofs.Common.{below_more}
+use Rattle.std.proofs.Common.{below_more, take, ◌⊎◌, inl, inr}
+use Rattle.std.specs.Prelude.{MatchOption, unwrap_or}
 use Rattle.std.specs.Prelude.{nat_le, sum_by}
 use Rattle.std.proofs.lemmas.Bool.{and_parts, or_parts, false_from_ne_true, ltb-false, le-leb, lt-leb, eqb-false}
+use Rattle.std.proofs.lemmas.Bool.{eqb-true}
 use Rattle.layout_spec.specs.declared.Candidate.{Candidate}
 use Rattle.layout_spec.specs.declared.Known.{Known}
 use Rattle.layout_spec.specs.Laid.{params_of, zones_of, has_layout}
@@ -13,8 +15,10 @@ use Rattle.layout_spec.specs.Family.{memories, is_shape, is_told_once}
 use Rattle.layout_search.specs.Levels.{Over, IsListed, after, levels_from, next, values, having}
 use Rattle.layout_search.specs.declared.levels.Level.{Level}
 use Rattle.layout_search.specs.declared.levels.Level.TheVariants.{Mem, Dump, Console, Ftrace, Pmsg, Cpus, Parity}
+use Rattle.layout_search.specs.Walked.{OverBefore, is_walked, all_levels, word, count_of, counted, nowhere}
+use Rattle.layout_search.specs.declared.levels.Reached.{Reached}
 use Rattle.layout_search.specs.Placed.{IsPlaced, IsPassed}
-use Rattle.layout_search.specs.Tried.{Advances, IsSettled, TagsSettled, SettledOver, is_ahead}
+use Rattle.layout_search.specs.Tried.{Advances, IsSettled, TagsSettled, SettledOver, SettledBefore, is_ahead}
 use Rattle.layout_search.specs.Rows.{dump_row_of, console_row_of, ftrace_row_of, pmsg_row_of}
 use Rattle.layout_search.proofs.CandidateFaults.{cpus_bad}
 use Rattle.zone_spec.specs.declared.params.Params.{Params}
@@ -24,7 +28,7 @@ use Rattle.layout_search.specs.declared.progress.Best.{Best}
 use Rattle.layout_search.specs.declared.progress.Progress.{Progress}
 use Rattle.layout_search.specs.declared.progress.Aim.{Aim}
 use Rattle.layout_search.proofs.Keys.{not_before}
-use Rattle.layout_search.proofs.Members.{member_at, place_of}
+use Rattle.layout_search.proofs.Members.{member_at, place_of, place_before}
 
 abbrev count_rows : List Row → ℕ
 count_rows rows = sum_by (λ (row : Row). row.count) rows
@@ -63,23 +67,18 @@ advances_trans p q = record {
 pub later : {known : Known} {image : List ℕ} {aim : Aim} {c : Candidate} {a b : Progress} → Advances a b
     → IsSettled known image aim c a → IsSettled known image aim c b
 later p h = record {
-  settled = λ work family few other. p.best _ (h.settled (omega (arith, work, p.work)) family few other);
+  settled = λ family few other. p.best _ (h.settled family few other);
 }
 
 pub tags_later : {known : Known} {image : List ℕ} {aim : Aim} {c : Candidate} {a b : Progress} → Advances a b
     → TagsSettled known image aim a c → TagsSettled known image aim b c
 tags_later p h = record { all = λ t m. later p (h.all t m) }
 
--- a search that has given up has settled all
-pub given_up : (known : Known) (image : List ℕ) (aim : Aim) (c : Candidate) (s : Progress) → s.work ≡ 0
-    → IsSettled known image aim c s
-given_up known image aim c s e = record { settled = λ work family few other. absurd (omega (arith, work, e)) }
-
 -- what has no layout is settled
 pub no_layout : (known : Known) (image : List ℕ) (aim : Aim) (c : Candidate) (s : Progress) → has_layout c ≡ false
     → IsSettled known image aim c s
 no_layout known image aim c s e = record {
-  settled = λ work family few other. absurd (true≢false (sym (family_layout known image c family) ∙ e));
+  settled = λ family few other. absurd (true≢false (sym (family_layout known image c family) ∙ e));
 }
 
 pub family_of : (known : Known) (image : List ℕ) (c : Candidate) (t : ℕ) → is_chosen known (length image) c ≡ true
@@ -107,12 +106,6 @@ over_map : (known : Known) (len : ℕ) (P Q : Candidate → Type 0) → ((d : Ca
 unfolding Over
 over_map known len P Q f [] c h = f c h
 over_map known len P Q f (level ∷ levels) c h = λ n m. over_map known len P Q f levels (having level c n) (h n m)
-
-over_all : (known : Known) (len : ℕ) (Q : Candidate → Type 0) → ((d : Candidate) → Q d) → (levels : List Level)
-    (c : Candidate) → Over known len levels Q c
-unfolding Over
-over_all known len Q f [] c = f c
-over_all known len Q f (level ∷ levels) c = λ n m. over_all known len Q f levels (having level c n)
 
 -- one word more
 pub over_next : (known : Known) (len : ℕ) (Q : Candidate → Type 0) (level : Level) (c : Candidate) (n : ℕ)
@@ -143,11 +136,6 @@ pub over_later : (known : Known) (image : List ℕ) (aim : Aim) (levels : List L
     → Advances a b → SettledOver known image aim levels c a → SettledOver known image aim levels c b
 over_later known image aim levels c a b p h = over_map known (length image) (TagsSettled known image aim a)
     (TagsSettled known image aim b) (λ d. tags_later p) levels c h
-
-pub over_given_up : (known : Known) (image : List ℕ) (aim : Aim) (levels : List Level) (c : Candidate) (s : Progress)
-    → s.work ≡ 0 → SettledOver known image aim levels c s
-over_given_up known image aim levels c s e = over_all known (length image) (TagsSettled known image aim s)
-    (λ d. record { all = λ t m. given_up known image aim (record d { tag = t }) s e }) levels c
 
 pub after_next : (level : Level) → levels_from (next level) ≡ after level
 after_next Mem = refl
@@ -229,6 +217,123 @@ one_more known image aim level c list k a b p h last =
     below_more (λ j. SettledOver known image aim (after level) (having level c (get_or list j 0)) b) k
     (λ j lt. over_later known image aim (after level) (having level c (get_or list j 0)) a b p (h j lt)) last
 
+-- ---- what the walk came by
+
+pub before_last : (known : Known) (len : ℕ) (Q : Candidate → Type 0) (c : Candidate) (r : Reached)
+    → OverBefore known len [] Q c r
+unfolding OverBefore
+before_last known len Q c r = tt
+
+count_nowhere : (level : Level) → count_of level nowhere ≡ 0
+count_nowhere Mem = refl
+count_nowhere Dump = refl
+count_nowhere Console = refl
+count_nowhere Ftrace = refl
+count_nowhere Pmsg = refl
+count_nowhere Cpus = refl
+count_nowhere Parity = refl
+
+count_counted : (level : Level) (r : Reached) (n : ℕ) → count_of level (counted level r n) ≡ n
+count_counted Mem r n = refl
+count_counted Dump r n = refl
+count_counted Console r n = refl
+count_counted Ftrace r n = refl
+count_counted Pmsg r n = refl
+count_counted Cpus r n = refl
+count_counted Parity r n = refl
+
+-- the counts of these words are the same
+Same : List Level → Reached → Reached → Type 0
+Same [] a b = Unit {0}
+Same (level ∷ levels) a b = (count_of level a ≡ count_of level b) × Same levels a b
+
+same_after : (level : Level) (r : Reached) (n : ℕ) → Same (after level) (counted level r n) r
+unfolding Same
+same_after Mem r n = (refl, (refl, (refl, (refl, (refl, (refl, tt))))))
+same_after Dump r n = (refl, (refl, (refl, (refl, (refl, tt)))))
+same_after Console r n = (refl, (refl, (refl, (refl, tt))))
+same_after Ftrace r n = (refl, (refl, (refl, tt)))
+same_after Pmsg r n = (refl, (refl, tt))
+same_after Cpus r n = (refl, tt)
+same_after Parity r n = tt
+
+before_same : (known : Known) (len : ℕ) (Q : Candidate → Type 0) (levels : List Level) (c : Candidate) (a b : Reached)
+    → Same levels a b → OverBefore known len levels Q c b → OverBefore known len levels Q c a
+unfolding OverBefore Same
+before_same known len Q [] c a b same h = tt
+before_same known len Q (level ∷ levels) c a b same h = (
+  (λ n m. h.0 n (subst (λ k. is_one_of n (take k (values level known len c)) ≡ true) same.0 m)),
+  subst (λ k. OverBefore known len levels Q (having level c (get_or (values level known len c) k 0)) a) (sym same.0)
+      (before_same known len Q levels (having level c (get_or (values level known len c) (count_of level b) 0))
+      a b same.1 h.1),
+)
+
+-- nothing is claimed of nowhere
+pub before_nowhere : (known : Known) (len : ℕ) (Q : Candidate → Type 0) (levels : List Level) (c : Candidate)
+    → OverBefore known len levels Q c nowhere
+unfolding OverBefore
+before_nowhere known len Q [] c = tt
+before_nowhere known len Q (level ∷ levels) c = (
+  (λ n m. absurd (true≢false (sym (subst (λ k. is_one_of n (take k (values level known len c)) ≡ true)
+      (count_nowhere level) m)))),
+  before_nowhere known len Q levels (having level c (get_or (values level known len c) (count_of level nowhere) 0)),
+)
+
+-- the walk ends at the value k of a word
+pub before_here : (known : Known) (image : List ℕ) (aim : Aim) (level : Level) (c : Candidate) (s : Progress)
+    (r : Reached)
+    (list : List ℕ) (k : ℕ) → list ≡ values level known (length image) c
+    → ((j : ℕ) → j < k → SettledOver known image aim (after level) (having level c (get_or list j 0)) s)
+    → SettledBefore known image aim (after level) (having level c (get_or list k 0)) s r
+    → SettledBefore known image aim (level ∷ after level) c s (counted level r k)
+unfolding OverBefore
+before_here known image aim level c s r list k e h inner =
+    let len = length image in
+    let Q : Candidate → Type 0 = TagsSettled known image aim s in
+    let count = count_counted level r k in
+    let first : (n : ℕ) → is_one_of n (take k list) ≡ true → Over known len (after level) Q (having level c n) =
+    λ n m.
+    let at = place_before k list n m in
+    subst (λ (n : ℕ). Over known len (after level) Q (having level c n)) at.here (h at.place at.before) in
+    let rest : OverBefore known len (after level) Q (having level c (get_or list k 0)) (counted level r k) =
+    before_same known len Q (after level) (having level c (get_or list k 0)) (counted level r k) r
+    (same_after level r k) inner in
+    let both : ((n : ℕ) → is_one_of n (take k (values level known len c)) ≡ true
+    → Over known len (after level) Q (having level c n))
+    × OverBefore known len (after level) Q (having level c (get_or (values level known len c) k 0))
+    (counted level r k) =
+    subst (λ xs. ((n : ℕ) → is_one_of n (take k xs) ≡ true → Over known len (after level) Q (having level c n))
+    × OverBefore known len (after level) Q (having level c (get_or xs k 0)) (counted level r k)) e (first, rest) in
+    subst (λ m. ((n : ℕ) → is_one_of n (take m (values level known len c)) ≡ true
+    → Over known len (after level) Q (having level c n))
+    × OverBefore known len (after level) Q (having level c (get_or (values level known len c) m 0)) (counted level r k))
+    (sym count) both
+
+-- one word of a layout that the walk came by
+split_word : (known : Known) (len : ℕ) (Q : Candidate → Type 0) (level : Level) (levels : List Level) (r : Reached)
+    (c d : Candidate) → values level known len c ≡ values level known len d
+    → OverBefore known len (level ∷ levels) Q c r → is_walked known len (level ∷ levels) r d ≡ true
+    → Over known len levels Q (having level c (word level d))
+    ⊎ (OverBefore known len levels Q (having level c (word level d)) r × (is_walked known len levels r d ≡ true))
+unfolding OverBefore is_walked
+split_word known len Q level levels r c d e h walked =
+    step (is_one_of (word level d) (take (count_of level r) (values level known len d))) refl walked
+  where
+    step : (b : Bool) → is_one_of (word level d) (take (count_of level r) (values level known len d)) ≡ b
+        → (b || ((word level d == get_or (values level known len d) (count_of level r) 0)
+        && is_walked known len levels r d)) ≡ true
+        → Over known len levels Q (having level c (word level d))
+        ⊎ (OverBefore known len levels Q (having level c (word level d)) r × (is_walked known len levels r d ≡ true))
+    step true is w =
+        inl (h.0 (word level d) (subst (λ xs. is_one_of (word level d) (take (count_of level r) xs) ≡ true) (sym e) is))
+    step false is w =
+        let parts = and_parts (word level d == get_or (values level known len d) (count_of level r) 0) _ w in
+        let same : word level d ≡ get_or (values level known len d) (count_of level r) 0 = eqb-true _ _ parts.0 in
+        let there : OverBefore known len levels Q (having level c (get_or (values level known len d)
+        (count_of level r) 0)) r =
+        subst (λ xs. OverBefore known len levels Q (having level c (get_or xs (count_of level r) 0)) r) e h.1 in
+        inr (subst (λ n. OverBefore known len levels Q (having level c n) r) (sym same) there, parts.1)
+
 -- ---- what is not of the family is settled
 
 chosen_in : (known : Known) (image : List ℕ) (c : Candidate) → is_of_family known image c ≡ true
@@ -273,7 +378,7 @@ strange : (known : Known) (image : List ℕ) (aim : Aim) (c : Candidate) (s : Pr
     → SettledOver known image aim (Cpus ∷ Parity ∷ []) c s
 unfolding Over
 strange known image aim c s never = λ n a r b. record {
-  all = λ t d. record { settled = λ work family few other. absurd (never n r t family few) };
+  all = λ t d. record { settled = λ family few other. absurd (never n r t family few) };
 }
 
 pub not_told : (known : Known) (image : List ℕ) (aim : Aim) (c : Candidate) (s : Progress)
@@ -323,7 +428,7 @@ pub bad_rows : (known : Known) (image : List ℕ) (aim : Aim) (c : Candidate) (s
 unfolding Over
 bad_rows known image aim c s far = λ r b. record {
   all = λ t d. record {
-    settled = λ work family few other.
+    settled = λ family few other.
         let e : Candidate = record c { parity = r; tag = t } in
         let h : aim.limit < faults image (zones_of e) = far (params_of e) in absurd (omega (arith, h, few));
   };
@@ -342,7 +447,7 @@ pub bad_first : (known : Known) (image : List ℕ) (aim : Aim) (c : Candidate) (
     → ((t : ℕ) → aim.limit < faults image (zones_of (record c { tag = t }))) → SettledOver known image aim [] c s
 unfolding Over
 bad_first known image aim c s far = record {
-  all = λ t d. record { settled = λ work family few other. absurd (omega (arith, far t, few)) };
+  all = λ t d. record { settled = λ family few other. absurd (omega (arith, far t, few)) };
 }
 
 pub good_cpus : (n : ℕ) → ((n == 0) || nat_lt 64 n) ≡ false → (1 ≤ n) × (n ≤ 64)
@@ -372,7 +477,7 @@ pub all_settled : (known : Known) (image : List ℕ) (aim : Aim) (start : Candid
     → SettledOver known image aim (levels_from (Some Mem)) start s → (c : Candidate) → IsSettled known image aim c s
 unfolding Over
 all_settled known image aim start s h c = record {
-  settled = λ work family few other.
+  settled = λ family few other.
       let len = length image in
       let parts = parts_in known image c family in
       let p = and_parts _ (is_one_of c.pmsg (known_or known.pmsg (sizes len))) parts.shape in
@@ -382,8 +487,82 @@ all_settled known image aim start s h c = record {
       (is_one_of c.dump (known_or known.dump (sizes len))) o.0 in
       let sized = h c.mem d.0 c.dump d.1 c.console o.1 c.ftrace f.1 c.pmsg p.1 in
       let one = (sized c.cpus parts.cpus c.parity parts.parity).all c.tag (tag_in known image c family) in
-      one.settled work family few other;
+      one.settled family few other;
 }
+
+pub walked_settled : (known : Known) (image : List ℕ) (aim : Aim) (start : Candidate) (s : Progress) (r : Reached)
+    → SettledBefore known image aim all_levels start s r → (c : Candidate)
+    → is_walked known (length image) all_levels r c ≡ true → IsSettled known image aim c s
+unfolding Over is_walked
+walked_settled known image aim start s r h c walked = record {
+  settled = λ family few other.
+      let len = length image in
+      let Q : Candidate → Type 0 = TagsSettled known image aim s in
+      let parts = parts_in known image c family in
+      let p = and_parts _ (is_one_of c.pmsg (known_or known.pmsg (sizes len))) parts.shape in
+      let f = and_parts _ (is_one_of c.ftrace (known_or known.ftrace (sizes len))) p.0 in
+      let o = and_parts _ (is_one_of c.console (known_or known.console (sizes len))) f.0 in
+      let d = and_parts (is_one_of c.mem (known_or known.mem (memories len)))
+      (is_one_of c.dump (known_or known.dump (sizes len))) o.0 in
+      let t = tag_in known image c family in
+      let c1 : Candidate = record start { mem = c.mem } in
+      let c2 : Candidate = record c1 { dump = c.dump } in
+      let c3 : Candidate = record c2 { console = c.console } in
+      let c4 : Candidate = record c3 { ftrace = c.ftrace } in
+      let c5 : Candidate = record c4 { pmsg = c.pmsg } in
+      let c6 : Candidate = record c5 { cpus = c.cpus } in
+      let tags : TagsSettled known image aim s (record c { tag = start.tag }) = elim (split_word known len Q Mem
+      (after Mem) r start c refl h walked) [
+        | inl k ↦ k c.dump d.1 c.console o.1 c.ftrace f.1 c.pmsg p.1 c.cpus parts.cpus c.parity parts.parity
+        | inr k ↦ elim (split_word known len Q Dump (after Dump) r c1 c refl k.0 k.1) [
+          | inl k ↦ k c.console o.1 c.ftrace f.1 c.pmsg p.1 c.cpus parts.cpus c.parity parts.parity
+          | inr k ↦ elim (split_word known len Q Console (after Console) r c2 c refl k.0 k.1) [
+            | inl k ↦ k c.ftrace f.1 c.pmsg p.1 c.cpus parts.cpus c.parity parts.parity
+            | inr k ↦ elim (split_word known len Q Ftrace (after Ftrace) r c3 c refl k.0 k.1) [
+              | inl k ↦ k c.pmsg p.1 c.cpus parts.cpus c.parity parts.parity
+              | inr k ↦ elim (split_word known len Q Pmsg (after Pmsg) r c4 c refl k.0 k.1) [
+                | inl k ↦ k c.cpus parts.cpus c.parity parts.parity
+                | inr k ↦ elim (split_word known len Q Cpus (after Cpus) r c5 c refl k.0 k.1) [
+                  | inl k ↦ k c.parity parts.parity
+                  | inr k ↦ elim (split_word known len Q Parity (after Parity) r c6 c refl k.0 k.1) [
+                    | inl k ↦ k
+                    | inr k ↦ absurd (true≢false (sym k.1))
+                  ]
+                ]
+              ]
+            ]
+          ]
+        ]
+      ] in (tags.all c.tag t).settled family few other;
+}
+
+pub part_settled : (known : Known) (image : List ℕ) (aim : Aim) (start : Candidate) (s : Progress)
+    (stop : Option Reached)
+    → MatchOption stop (SettledOver known image aim all_levels start s)
+    (SettledBefore known image aim all_levels start s)
+    → (c : Candidate) → is_walked known (length image) all_levels (unwrap_or stop nowhere) c ≡ true
+    → IsSettled known image aim c s
+part_settled known image aim start s None h c walked = all_settled known image aim start s h c
+part_settled known image aim start s (Some r) h c walked = walked_settled known image aim start s r h c walked
+
+pub stop_here : (known : Known) (image : List ℕ) (aim : Aim) (a : Option Level) (level : Level) (c : Candidate)
+    (s : Progress) (r t : Reached) (list : List ℕ) (k : ℕ) → a ≡ Some level → t ≡ counted level r k
+    → list ≡ values level known (length image) c
+    → ((j : ℕ) → j < k → SettledOver known image aim (after level) (having level c (get_or list j 0)) s)
+    → SettledBefore known image aim (after level) (having level c (get_or list k 0)) s r
+    → SettledBefore known image aim (levels_from a) c s t
+stop_here known image aim a level c s r t list k ea et el h inner =
+    subst (λ (o : Option Level). SettledBefore known image aim (levels_from o) c s t) (sym ea)
+    (subst (λ (t : Reached). SettledBefore known image aim (level ∷ after level) c s t) (sym et)
+    (before_here known image aim level c s r list k el h inner))
+
+pub step_before : (known : Known) (image : List ℕ) (aim : Aim) (b : Option Level) (level : Level) (c d : Candidate)
+    (n : ℕ) (s : Progress) (r : Reached) → b ≡ next level → d ≡ having level c n
+    → SettledBefore known image aim (levels_from b) d s r
+    → SettledBefore known image aim (after level) (having level c n) s r
+step_before known image aim b level c d n s r eb ed h =
+    subst (λ (d : Candidate). SettledBefore known image aim (after level) d s r) ed
+    (subst (λ ls. SettledBefore known image aim ls d s r) (ap (λ o. levels_from o) eb ∙ after_next level) h)
 
 pub above : (a b : ℕ) → b < a → nat_le a b ≡ false
 above a b h = lt-leb a b h

@@ -1,5 +1,5 @@
 -- Members of lists of numbers
-use Rattle.std.proofs.Common.{◌≡◌, ℕ, zero, suc, ◌<◌, Bool, true, false, ◌||◌, ◌==◌, List, [], ◌∷◌, length, get_or}
+use Rattle.std.proofs.Common.{◌≡◌, ℕ, zero, suc, ◌<◌, Bool, true, false, ◌||◌, ◌==◌, List, [], ◌∷◌, length, get_or, take}
 use Rattle.std.proofs.Common.{refl, sym, ap, ◌∙◌, arith, true≢false, eqb-true}
 use Rattle.std.proofs.lemmas.Bool.Decides.{nat_tests}
 use Rattle.layout_spec.specs.Family.{is_one_of}
@@ -31,3 +31,20 @@ place_of (y ∷ ys) x h = step (x == y) refl h (place_of ys x)
     step true e k rest = record { place = 0; inside = omega arith; here = sym (eqb-true x y e) }
     step false e k rest =
         let at = rest k in record { place = suc at.place; inside = omega (arith, at.inside); here = at.here }
+
+-- a place before k
+pub record IsBefore (k : ℕ) (xs : List ℕ) (x : ℕ) : Type 0 where
+  pub place : ℕ
+  pub before : place < k
+  pub here : get_or xs place 0 ≡ x
+
+pub place_before : (k : ℕ) (xs : List ℕ) (x : ℕ) → is_one_of x (take k xs) ≡ true → IsBefore k xs x
+place_before zero xs x h = absurd (true≢false (sym h))
+place_before (suc k) [] x h = absurd (true≢false (sym h))
+place_before (suc k) (y ∷ ys) x h = step (x == y) refl h (place_before k ys x)
+  where
+    step : (b : Bool) → (x == y) ≡ b → (b || is_one_of x (take k ys)) ≡ true
+        → (is_one_of x (take k ys) ≡ true → IsBefore k ys x) → IsBefore (suc k) (y ∷ ys) x
+    step true e w rest = record { place = 0; before = omega arith; here = sym (eqb-true x y e) }
+    step false e w rest =
+        let at = rest w in record { place = suc at.place; before = omega (arith, at.before); here = at.here }

@@ -16,7 +16,7 @@ use Rattle.layout_spec.specs.Marks.{marks, fits}
 use Rattle.layout_spec.specs.Family.{is_of_family}
 use Rattle.layout_spec.specs.Order.{faults, tally_of, key, key_by, is_before}
 use Rattle.layout_spec.specs.Taken.{is_taken}
-use Rattle.layout_search.specs.Tried.{IsKept, IsSound, IsSettled, HasFew, HasMore, is_ahead}
+use Rattle.layout_search.specs.Tried.{IsKept, IsSound, IsSettled, IsBestSoFar, HasFew, HasMore, is_ahead}
 use Rattle.layout_search.specs.Answers.{IsAnswer, IsNext, IsAlone, IsEmpty, AreFaulty, MayGiveUp, is_narrow}
 use Rattle.layout_search.specs.declared.progress.Best.{Best}
 use Rattle.layout_search.specs.declared.progress.Progress.{Progress}
@@ -63,9 +63,9 @@ all_faulty known image limit best more sound first d family = step (nat_le (faul
 -- the same of a search that has settled all
 pub none_left : (known : Known) (image : List ℕ) (aim : Aim) (s : Progress) → aim.besides ≡ None
     → HasMore aim.limit s.best → IsSound known image None s.best → ((c : Candidate) → IsSettled known image aim c s)
-    → 0 < s.work → AreFaulty known image aim.limit
-none_left known image aim s all more sound settled work = all_faulty known image aim.limit s.best more sound
-    (λ d family few. (settled d).settled work family few
+    → AreFaulty known image aim.limit
+none_left known image aim s all more sound settled = all_faulty known image aim.limit s.best more sound
+    (λ d family few. (settled d).settled family few
     (λ e. let n : ◌≡◌ {A = Option Candidate} None (Some d) = sym all ∙ e in cc))
 
 zones_short : (d : Candidate) → has_layout d ≡ true → length (zones_of d) < 2 ^ 32
@@ -138,9 +138,9 @@ gives_up_first known image effort old new faulty narrow all some ended = record 
 
 -- with few faults the best is before all that were not looked for
 pub done : (known : Known) (image : List ℕ) (aim : Aim) (s : Progress) → IsSound known image None s.best
-    → aim.besides ≡ None → HasFew aim.limit s.best → ((c : Candidate) → IsSettled known image aim c s) → 0 < s.work
+    → aim.besides ≡ None → HasFew aim.limit s.best → ((c : Candidate) → IsSettled known image aim c s)
     → (d : Candidate) → is_of_family known image d ≡ true → is_ahead (key image d) s.best ≡ false
-done known image aim s sound all few settled work d family = step (nat_le (faults image (zones_of d)) aim.limit) refl
+done known image aim s sound all few settled d family = step (nat_le (faults image (zones_of d)) aim.limit) refl
   where
     behind : (best : Option Best) → IsSound known image None best → HasFew aim.limit best
         → aim.limit < faults image (zones_of d) → is_ahead (key image d) best ≡ false
@@ -153,24 +153,28 @@ done known image aim s sound all few settled work d family = step (nat_le (fault
     besides e = let n : ◌≡◌ {A = Option Candidate} None (Some d) = sym all ∙ e in cc
 
     step : (b : Bool) → nat_le (faults image (zones_of d)) aim.limit ≡ b → is_ahead (key image d) s.best ≡ false
-    step true e = (settled d).settled work family (leb-true _ _ e) besides
+    step true e = (settled d).settled family (leb-true _ _ e) besides
     step false e = behind s.best sound few (leb-false _ _ e)
 
 -- the answer that is not whole
-pub partly : (known : Known) (image : List ℕ) (b : Best) (rival : Option Candidate) → IsKept known image None b
-    → MayGiveUp known image
+pub partly : (known : Known) (image : List ℕ) (b : Best) (rival : Option Candidate) (s : Progress)
+    → IsKept known image None b → MayGiveUp known image → s.best ≡ Some b → IsBestSoFar known image s
     → IsAnswer known image (record {
       candidate = b.candidate;
       tally = b.tally;
       taken = is_taken b.tally;
       rival = rival;
       whole = false;
+      limit = s.limit;
+      reached = s.reached;
     })
-partly known image b rival kept given_up = record {
+partly known image b rival s kept given_up same so_far = record {
   of_family = kept.of_family;
   tally_is = kept.tally_is;
   taken_is = ap is_taken kept.tally_is;
   part = λ e. given_up;
+  so_far = λ e d family walked few. sym (ap (λ k. is_before (key image d) k) kept.key_is)
+      ∙ (sym (ap (λ (o : Option Best). is_ahead (key image d) o) same) ∙ so_far d family walked few);
   first = λ e. absurd (true≢false (sym e));
   next = λ e. absurd (true≢false (sym e));
 }
@@ -192,7 +196,8 @@ next_is known image b (Some r) kept sound all = record {
 }
 
 -- the whole answer
-pub wholly : (known : Known) (image : List ℕ) (b : Best) (best : Option Best) (whole : Bool) → IsKept known image None b
+pub wholly : (known : Known) (image : List ℕ) (b : Best) (best : Option Best) (whole : Bool) (s : Progress)
+    → IsKept known image None b
     → ((d : Candidate) → is_of_family known image d ≡ true → is_before (key image d) b.key ≡ false)
     → IsSound known image (Some b.candidate) best
     → (whole ≡ true → (d : Candidate) → is_of_family known image d ≡ true → b.candidate ≢ d
@@ -204,12 +209,15 @@ pub wholly : (known : Known) (image : List ℕ) (b : Best) (best : Option Best) 
       taken = is_taken b.tally;
       rival = option_map (λ (r : Best). r.candidate) best;
       whole = whole;
+      limit = s.limit;
+      reached = s.reached;
     })
-wholly known image b best whole kept first sound all part = record {
+wholly known image b best whole s kept first sound all part = record {
   of_family = kept.of_family;
   tally_is = kept.tally_is;
   taken_is = ap is_taken kept.tally_is;
   part = part;
+  so_far = λ e d family walked few. sym (ap (λ k. is_before (key image d) k) kept.key_is) ∙ first d family;
   first = λ e d family. sym (ap (λ k. is_before (key image d) k) kept.key_is) ∙ first d family;
   next = λ e. next_is known image b best kept sound (all e);
 }

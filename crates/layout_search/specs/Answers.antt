@@ -1,11 +1,12 @@
 -- What a search answers
-use Rattle.std.specs.Prelude.{◌≡◌, ◌≢◌, ◌≤◌, ◌<◌, ℕ, Bool, true, false, ◌&&◌, is_some, List, Option, MatchOption}
+use Rattle.std.specs.Prelude.{◌≡◌, ◌≢◌, ◌≤◌, ◌<◌, ℕ, Bool, true, false, ◌&&◌, is_some, List, length, Option, MatchOption}
 use Rattle.layout_spec.specs.declared.Candidate.{Candidate}
 use Rattle.layout_spec.specs.declared.Known.{Known}
 use Rattle.layout_spec.specs.Family.{is_of_family}
 use Rattle.layout_spec.specs.Laid.{zones_of}
 use Rattle.layout_spec.specs.Order.{faults, tally_of, key, is_before}
 use Rattle.layout_spec.specs.Taken.{is_taken}
+use Rattle.layout_search.specs.Walked.{is_walked, all_levels}
 use Rattle.layout_search.specs.declared.searching.Found.{Found}
 
 -- another layout of the family has as few faults, and none of the others with as few is before it
@@ -39,11 +40,18 @@ pub record MayGiveUp (known : Known) (image : List ℕ) : Type 0 where
   pub wide : is_narrow known ≡ false
   pub faulty : AreFaulty known image 1
 
+-- of the layouts that the walk came by, none with at most so many faults is before the answer
+abbrev pub IsBestWalked : Known → List ℕ → Found → Type 0
+IsBestWalked known image f =
+    (d : Candidate) → is_of_family known image d ≡ true → is_walked known (length image) all_levels f.reached d ≡ true
+    → faults image (zones_of d) ≤ f.limit → is_before (key image d) (key image f.candidate) ≡ false
+
 pub record IsAnswer (known : Known) (image : List ℕ) (f : Found) : Type 0 where
   pub of_family : is_of_family known image f.candidate ≡ true
   pub tally_is : f.tally ≡ tally_of image f.candidate
   pub taken_is : f.taken ≡ is_taken (tally_of image f.candidate)
   pub part : f.whole ≡ false → MayGiveUp known image
+  pub so_far : f.whole ≡ false → IsBestWalked known image f
   pub first : f.whole ≡ true → (d : Candidate) → is_of_family known image d ≡ true
       → is_before (key image d) (key image f.candidate) ≡ false
   pub next : f.whole ≡ true → MatchOption f.rival (IsAlone known image f.candidate) (IsNext known image f.candidate)

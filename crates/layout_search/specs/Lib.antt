@@ -3,6 +3,7 @@ pub mod Looks
 pub mod Counted
 pub mod Seen
 pub mod Levels
+pub mod Walked
 pub mod Tried
 pub mod Rows
 pub mod Placed

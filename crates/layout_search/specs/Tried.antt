@@ -7,6 +7,8 @@ use Rattle.layout_spec.specs.Marks.{marks}
 use Rattle.layout_spec.specs.Family.{is_of_family, is_one_of, tags_for}
 use Rattle.layout_spec.specs.Order.{faults, tally_of, key, is_before}
 use Rattle.layout_search.specs.Levels.{Over}
+use Rattle.layout_search.specs.Walked.{OverBefore, is_walked, all_levels}
+use Rattle.layout_search.specs.declared.levels.Reached.{Reached}
 use Rattle.layout_search.specs.declared.levels.Level.{Level}
 use Rattle.layout_search.specs.declared.progress.Best.{Best}
 use Rattle.layout_search.specs.declared.progress.Progress.{Progress}
@@ -45,9 +47,9 @@ pub record Advances (old new : Progress) : Type 0 where
   pub all : old.effort ≡ All → new.work ≡ old.work
   pub first : old.effort ≡ First → new.best ≡ None → new.work ≡ old.work
 
--- unless the search has given up, the candidate is not ahead of the best, if it is looked for
+-- the candidate is not ahead of the best, if it is looked for
 pub record IsSettled (known : Known) (image : List ℕ) (aim : Aim) (c : Candidate) (s : Progress) : Type 0 where
-  pub settled : 0 < s.work → is_of_family known image c ≡ true → faults image (zones_of c) ≤ aim.limit
+  pub settled : is_of_family known image c ≡ true → faults image (zones_of c) ≤ aim.limit
       → aim.besides ≢ Some c → is_ahead (key image c) s.best ≡ false
 
 -- so is the candidate with each tag of the family
@@ -58,6 +60,16 @@ pub record TagsSettled (known : Known) (image : List ℕ) (aim : Aim) (s : Progr
 -- so are those with each value of these words, and each tag
 abbrev pub SettledOver : Known → List ℕ → Aim → List Level → Candidate → Progress → Type 0
 SettledOver known image aim levels c s = Over known (length image) levels (TagsSettled known image aim s) c
+
+-- so are those that the walk came by
+abbrev pub SettledBefore : Known → List ℕ → Aim → List Level → Candidate → Progress → Reached → Type 0
+SettledBefore known image aim levels c s r = OverBefore known (length image) levels (TagsSettled known image aim s) c r
+
+-- of the layouts that the walk came by, none with at most so many faults is ahead of the best
+abbrev pub IsBestSoFar : Known → List ℕ → Progress → Type 0
+IsBestSoFar known image s =
+    (d : Candidate) → is_of_family known image d ≡ true → is_walked known (length image) all_levels s.reached d ≡ true
+    → faults image (zones_of d) ≤ s.limit → is_ahead (key image d) s.best ≡ false
 
 -- the best has at most so many faults
 abbrev pub HasFew : ℕ → Option Best → Type 0

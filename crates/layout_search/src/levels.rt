@@ -2,6 +2,7 @@
 ghost use Rattle.std.specs.Prelude.{◌≡◌, ℕ, List, IfOk};
 ghost use Rattle.layout_spec.specs.declared.Known.{Known as KnownValue};
 ghost use Rattle.layout_search.specs.Levels.{next as next_of, having as having_as, values as values_of};
+ghost use Rattle.layout_search.specs.Walked.{counted as counted_as, nowhere as nowhere_at};
 ghost use Rattle.layout_search.specs.Placed.{AreLists};
 
 use crate::lists::Lists;
@@ -17,6 +18,49 @@ pub enum Level {
     Pmsg,
     Cpus,
     Parity,
+}
+
+/// How many values of each word were tried, each with all values of the words after it, before the walk ended: of the
+/// dump sizes with the next memory, and so on.
+#[derive(Clone, Copy, Debug, PartialEq, Eq)]
+pub struct Reached {
+    pub mem: u64,
+    pub dump: u64,
+    pub console: u64,
+    pub ftrace: u64,
+    pub pmsg: u64,
+    pub cpus: u64,
+    pub parity: u64,
+}
+
+/// No value of any word was tried.
+pub fn nowhere() -> Reached
+    ensures { result ≡ nowhere_at }
+{
+    Reached {
+        mem: 0,
+        dump: 0,
+        console: 0,
+        ftrace: 0,
+        pmsg: 0,
+        cpus: 0,
+        parity: 0,
+    }
+}
+
+/// So many values of this word were tried, and of the words after it what was reached.
+pub fn counted(r: &Reached, level: Level, n: u64) -> Reached
+    ensures { result ≡ counted_as level r.now n }
+{
+    match level {
+        Level::Mem => Reached { mem: n, ..*r },
+        Level::Dump => Reached { dump: n, ..*r },
+        Level::Console => Reached { console: n, ..*r },
+        Level::Ftrace => Reached { ftrace: n, ..*r },
+        Level::Pmsg => Reached { pmsg: n, ..*r },
+        Level::Cpus => Reached { cpus: n, ..*r },
+        Level::Parity => Reached { parity: n, ..*r },
+    }
 }
 
 /// The word that is tried next.

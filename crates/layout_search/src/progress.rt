@@ -1,4 +1,5 @@
 // How far a search has come.
+use crate::levels::Reached;
 use layout_spec::{Candidate, Tally};
 
 /// A layout with its tally and its key.
@@ -20,12 +21,15 @@ pub enum Effort {
     Bounded,
 }
 
-/// The best so far, and how much more work may be done. At 0 the search has ended before all were tried.
+/// The best so far, and how much more work may be done. At 0 the search has ended before all were tried, and the layouts
+/// with at most `limit` faults were tried that come before the place that it `reached`.
 #[derive(Clone, Copy)]
 pub struct Progress {
     pub best: Option<Best>,
     pub effort: Effort,
     pub work: u64,
+    pub reached: Reached,
+    pub limit: u64,
 }
 
 /// What is looked for: at most so many faults in an image with so many marks, and not this candidate.

@@ -6,13 +6,14 @@ ghost use Rattle.layout_spec.specs.Family.{is_of_family};
 ghost use Rattle.layout_spec.specs.Marks.{marks as marks_of};
 ghost use Rattle.layout_spec.specs.Order.{key as key_of, faults};
 ghost use Rattle.layout_search.specs.Placed.{AreLists};
-ghost use Rattle.layout_search.specs.Tried.{IsKept, IsSound, Advances, HasFew, HasMore, is_ahead};
+ghost use Rattle.layout_search.specs.Tried.{IsKept, IsSound, Advances, IsBestSoFar, HasFew, HasMore, is_ahead};
 ghost use Rattle.layout_search.specs.declared.progress.Best.{Best as BestValue};
 ghost use Rattle.layout_search.specs.declared.progress.Effort.TheVariants.{All};
 ghost use Rattle.layout_spec.specs.Laid.{zones_of};
 ghost use Rattle.layout_spec.specs.Taken.{is_taken};
 ghost use Rattle.layout_search.specs.Answers.{IsEmpty, IsSearched, AreFaulty, MayGiveUp, is_narrow};
 
+use crate::levels::{Reached, nowhere};
 use crate::lists::{Lists, make_lists};
 use crate::marks::count_marks;
 use crate::progress::{Aim, Best, Effort, Progress};
@@ -38,6 +39,23 @@ pub struct Found {
     pub rival: Option<Candidate>,
     /// Whether the search came to its end. If not, another layout may come first.
     pub whole: bool,
+    /// If not: of the layouts with at most so many faults, the walk had come so far, and none of those comes first.
+    pub limit: u64,
+    pub reached: Reached,
+}
+
+fn begin(best: Option<Best>, effort: Effort, work: u64) -> Progress
+    ensures best { result.best ≡ best }
+    ensures effort { result.effort ≡ effort }
+    ensures work { result.work ≡ work }
+{
+    Progress {
+        best,
+        effort,
+        work,
+        reached: nowhere(),
+        limit: 0,
+    }
 }
 
 fn is_done(best: &Option<Best>, limit: u64) -> bool
@@ -70,6 +88,7 @@ fn try_limit(
     ensures first { IfOk result (λ done. done ≡ true → 0 < state.new.work → (d : CandidateValue)
         → is_of_family known.now image.now d ≡ true → is_ahead (key_of image.now d) state.new.best ≡ false) }
     ensures more { IfOk result (λ done. done ≡ false → 0 < state.new.work → AreFaulty known.now image.now limit) }
+    ensures so_far { OnOk result (IsBestSoFar known.now image.now state.new) }
 {
     let aim = Aim {
         marks,
@@ -77,6 +96,7 @@ fn try_limit(
         besides: None,
     };
     sweep(alloc, image, known, lists, &aim, state)?;
+    state.limit = limit;
     Ok(is_done(&state.best, limit))
 }
 
@@ -93,11 +113,7 @@ fn find_some(
     requires lists { AreLists known.now (length image.now) lists.now }
     ensures { IfOk result (λ best. MatchOption best (IsEmpty known.now image.now) (IsKept known.now image.now None)) }
 {
-    let mut state = Progress {
-        best: None,
-        effort: Effort::First,
-        work: 1,
-    };
+    let mut state = begin(None, Effort::First, 1);
     try_limit(alloc, image, known, lists, marks, LAST, &mut state)?;
     Ok(state.best)
 }
@@ -119,6 +135,7 @@ fn find_faulty(
     ensures advances { OnOk result (Advances state.old state.new) }
     ensures first { OnOk result (0 < state.new.work → (d : CandidateValue) → is_of_family known.now image.now d ≡ true
         → is_ahead (key_of image.now d) state.new.best ≡ false) }
+    ensures so_far { OnOk result (IsBestSoFar known.now image.now state.new) }
 {
     let mut limit = 3;
     while limit < LAST {
@@ -173,23 +190,16 @@ fn find_first(
     ensures first { IfOk result (λ state. 0 < state.work → (d : CandidateValue) → is_of_family known.now image.now d ≡ true
         → is_ahead (key_of image.now d) state.best ≡ false) }
     ensures given_up { IfOk result (λ state. state.work ≡ 0 → MayGiveUp known.now image.now) }
+    ensures so_far { IfOk result (IsBestSoFar known.now image.now) }
 {
-    let mut state = Progress {
-        best: Some(some),
-        effort: Effort::All,
-        work: WORK,
-    };
+    let mut state = begin(Some(some), Effort::All, WORK);
     if try_limit(alloc, image, known, lists, marks, 0, &mut state)? {
         return Ok(state);
     }
     if try_limit(alloc, image, known, lists, marks, 1, &mut state)? {
         return Ok(state);
     }
-    let mut rest = Progress {
-        best: state.best,
-        effort: effort_for(known),
-        work: WORK,
-    };
+    let mut rest = begin(state.best, effort_for(known), WORK);
     find_faulty(alloc, image, known, lists, marks, &mut rest)?;
     Ok(rest)
 }
@@ -230,11 +240,7 @@ fn find_rival(
         → is_ahead (key_of image.now d) state.best ≡ false) }
     ensures given_up { IfOk result (λ state. state.work ≡ 0 → MayGiveUp known.now image.now) }
 {
-    let mut state = Progress {
-        best: None,
-        effort: effort_beside(known, best),
-        work,
-    };
+    let mut state = begin(None, effort_beside(known, best), work);
     let aim = Aim {
         marks,
         limit: best.tally.faults,
@@ -259,11 +265,11 @@ pub fn search(alloc: Global, image: &[u8], known: &Known) -> Result<Option<Found
         return Ok(None);
     };
     if state.work == 0 {
-        return Ok(Some(answer(&best, None, false)));
+        return Ok(Some(answer(&best, None, false, &state)));
     }
     let others = find_rival(alloc, image, known, &lists, marks, &best, state.work)?;
     let rival = candidate_of(&others.best);
-    Ok(Some(answer(&best, rival, others.work > 0)))
+    Ok(Some(answer(&best, rival, others.work > 0, &state)))
 }
 
 fn candidate_of(best: &Option<Best>) -> Option<Candidate>
@@ -275,13 +281,15 @@ fn candidate_of(best: &Option<Best>) -> Option<Candidate>
     }
 }
 
-fn answer(best: &Best, rival: Option<Candidate>, whole: bool) -> Found
+fn answer(best: &Best, rival: Option<Candidate>, whole: bool, state: &Progress) -> Found
     ensures { result ≡ record {
       candidate = best.now.candidate;
       tally = best.now.tally;
       taken = is_taken best.now.tally;
       rival = rival;
       whole = whole;
+      limit = state.now.limit;
+      reached = state.now.reached;
     } }
 {
     Found {
@@ -290,5 +298,7 @@ fn answer(best: &Best, rival: Option<Candidate>, whole: bool) -> Found
         taken: best.tally.faults <= best.tally.fits,
         rival,
         whole,
+        limit: state.limit,
+        reached: state.reached,
     }
 }

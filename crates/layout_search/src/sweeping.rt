@@ -1,11 +1,12 @@
 // The walk: all layouts of the family, one word after another.
-ghost use Rattle.std.specs.Prelude.{◌≡◌, length, OnOk};
+ghost use Rattle.std.specs.Prelude.{◌≡◌, ◌<◌, true, length, None, IfOk, OnOk, MatchOption};
 ghost use Rattle.layout_spec.specs.declared.Candidate.{Candidate as CandidateValue};
 ghost use Rattle.layout_search.specs.Levels.{Over, IsListed, levels_from};
 ghost use Rattle.layout_search.specs.Placed.{IsPassed, AreLists};
-ghost use Rattle.layout_search.specs.Tried.{IsAim, IsSound, Advances, IsSettled, SettledOver};
+ghost use Rattle.layout_search.specs.Tried.{IsAim, IsSound, Advances, IsSettled, SettledOver, SettledBefore};
+ghost use Rattle.layout_search.specs.Walked.{is_walked, all_levels};
 
-use crate::levels::{Level, having, next, values};
+use crate::levels::{Level, Reached, counted, having, next, nowhere, values};
 use crate::lists::Lists;
 use crate::progress::{Aim, Progress};
 use crate::refusing::{may_hold, spend};
@@ -13,7 +14,8 @@ use crate::tagging::try_tags;
 use layout_spec::{Candidate, Known};
 use std::alloc::{AllocError, Global};
 
-/// Tries a candidate with each value of this word and of those after it, and with each tag.
+/// Tries a candidate with each value of this word and of those after it, and with each tag. Tells what it reached if
+/// it ended before.
 fn walk(
     alloc: Global,
     image: &[u8],
@@ -23,19 +25,23 @@ fn walk(
     aim: &Aim,
     c: &Candidate,
     state: &mut Progress,
-) -> Result<(), AllocError>
+) -> Result<Option<Reached>, AllocError>
     requires aim { IsAim image.now aim.now }
     requires lists { AreLists known.now (length image.now) lists.now }
-    requires listed { Over known.now (length image.now) (levels_from level)
-        (IsListed known.now (length image.now)) c.now }
+    requires listed { Over known.now (length image.now) (levels_from level) (IsListed known.now (length image.now))
+        c.now }
     requires passed { IsPassed level known.now (length image.now) c.now }
     requires sound { IsSound known.now image.now aim.now.besides state.old.best }
     ensures advances { OnOk result (Advances state.old state.new) }
-    ensures settled { OnOk result (SettledOver known.now image.now aim.now (levels_from level) c.now state.new) }
+    ensures settled { IfOk result (λ stop. MatchOption stop
+        (SettledOver known.now image.now aim.now (levels_from level) c.now state.new)
+        (SettledBefore known.now image.now aim.now (levels_from level) c.now state.new)) }
+    ensures whole { IfOk result (λ stop. 0 < state.new.work → stop ≡ None) }
     ensures sound { OnOk result (IsSound known.now image.now aim.now.besides state.new.best) }
 {
     let Some(level) = level else {
-        return try_tags(alloc, image, known, aim, c, state);
+        try_tags(alloc, image, known, aim, c, state)?;
+        return Ok(None);
     };
     let list = values(lists, level, c);
     for k in 0..list.len() {
@@ -44,22 +50,26 @@ fn walk(
         let may = may_hold(alloc, image, known, level, aim, &candidate, &mut looked)?;
         spend(state, looked);
         if state.work == 0 {
-            return Ok(());
+            return Ok(Some(counted(&nowhere(), level, k as u64)));
         }
-        if may {
-            walk(
-                alloc,
-                image,
-                known,
-                lists,
-                next(level),
-                aim,
-                &candidate,
-                state,
-            )?;
+        if !may {
+            continue;
+        }
+        let stop = walk(
+            alloc,
+            image,
+            known,
+            lists,
+            next(level),
+            aim,
+            &candidate,
+            state,
+        )?;
+        if let Some(inner) = stop {
+            return Ok(Some(counted(&inner, level, k as u64)));
         }
     }
-    Ok(())
+    Ok(None)
 }
 
 /// Tries all layouts of the family.
@@ -75,7 +85,11 @@ pub fn sweep(
     requires lists { AreLists known.now (length image.now) lists.now }
     requires sound { IsSound known.now image.now aim.now.besides state.old.best }
     ensures advances { OnOk result (Advances state.old state.new) }
-    ensures settled { OnOk result ((c : CandidateValue) → IsSettled known.now image.now aim.now c state.new) }
+    ensures settled { OnOk result (0 < state.new.work
+        → (c : CandidateValue) → IsSettled known.now image.now aim.now c state.new) }
+    ensures part { OnOk result ((c : CandidateValue)
+        → is_walked known.now (length image.now) all_levels state.new.reached c ≡ true
+        → IsSettled known.now image.now aim.now c state.new) }
     ensures sound { OnOk result (IsSound known.now image.now aim.now.besides state.new.best) }
 {
     let start = Candidate {
@@ -88,7 +102,7 @@ pub fn sweep(
         cpus: 1,
         tag: 0,
     };
-    walk(
+    let stop = walk(
         alloc,
         image,
         known,
@@ -98,5 +112,6 @@ pub fn sweep(
         &start,
         state,
     )?;
+    state.reached = stop.unwrap_or(nowhere());
     Ok(())
 }

@@ -111,8 +111,8 @@ fn after(state: &Progress, best: Option<Best>, spent: u64) -> Progress
     };
     Progress {
         best,
-        effort: state.effort,
         work,
+        ..*state
     }
 }
 

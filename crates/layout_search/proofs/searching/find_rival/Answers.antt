@@ -1,6 +1,6 @@
 -- The sweep settles each layout of the family with as few faults, other than the best. It gives up only where it may.
 -- For `find_rival`.
-use Rattle.std.proofs.Common.{◌<◌, ◌≤◌, ◌+◌, ◌^◌, ap, arith}
+use Rattle.std.proofs.Common.{◌∙◌, ◌<◌, ◌≤◌, ◌+◌, ◌^◌, ap, arith}
 use Rattle.layout_spec.specs.declared.Tally.{Tally}
 use Rattle.layout_spec.specs.Laid.{zones_of}
 use Rattle.layout_spec.specs.Marks.{marks}
@@ -22,9 +22,11 @@ sweep-requires-clause-aim c =
 
 pub returns-clause-settled : goal.returns-clause-settled
 returns-clause-settled c = λ work d family differs few.
-    (c.in_ok-sweep.ensures.settled d).settled work family few (λ e. differs cc)
+    (c.in_ok-sweep.ensures.settled work d).settled family few (λ e. differs cc)
 
 pub returns-clause-given_up : goal.returns-clause-given_up
-returns-clause-given_up c = λ ended. gives_up c.args.known.now c.args.image.now c.args.best.now c.effort_beside.result
-    c.args.work c.sweep.new.state.work c.requires.sound c.requires.first c.effort_beside.ensures.narrow
-    c.effort_beside.ensures.few c.in_ok-sweep.ensures.advances.all c.requires.work ended
+returns-clause-given_up c = λ ended. gives_up c.args.known.now c.args.image.now c.args.best.now
+    c.begin-state.result.effort c.begin-state.result.work c.sweep.new.state.work c.requires.sound c.requires.first
+    (λ e. c.begin-state.ensures.effort ∙ c.effort_beside.ensures.narrow e)
+    (λ e. c.begin-state.ensures.effort ∙ c.effort_beside.ensures.few e) c.in_ok-sweep.ensures.advances.all
+    (omega (arith, c.requires.work, c.begin-state.ensures.work)) ended

@@ -25,7 +25,9 @@ returns c =
       taken = is_taken c.in-Some-best.best.tally;
       rival = r;
       whole = whole;
+      limit = state.limit;
+      reached = state.reached;
     })) (sym c.candidate_of-rival.ensures)
-    (wholly c.args.known.now c.args.image.now c.in-Some-best.best others.best whole kept first c.in_ok-others.ensures.sound
+    (wholly c.args.known.now c.args.image.now c.in-Some-best.best others.best whole state kept first c.in_ok-others.ensures.sound
     (λ e. c.in_ok-others.ensures.settled (ltb-true 0 others.work e))
     (λ e. c.in_ok-others.ensures.given_up (omega (arith, ltb-false 0 others.work e)))))
