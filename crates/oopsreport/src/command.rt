@@ -15,7 +15,13 @@ fn with_layout<'a>(alloc: Global, command: Command<'a>) -> Result<Command<'a>, A
         .long("mem-as-given")
         .action(ArgAction::SetTrue)
         .help("Take a mem_size that is no power of two as it is, as the kernel does");
-    with_tree(alloc, with_kernel(alloc, command.arg(param)?)?)?.arg(as_given)
+    let region = Arg::new(alloc, "region")
+        .long("region")
+        .action(ArgAction::SetTrue)
+        .help("Take each image as a region, also where it is a text log");
+    with_tree(alloc, with_kernel(alloc, command.arg(param)?)?)?
+        .arg(as_given)?
+        .arg(region)
 }
 
 // The kernel's own words and version.
@@ -99,7 +105,9 @@ fn with_work<'a>(alloc: Global, command: Command<'a>) -> Result<Command<'a>, All
         .required(true)
         .action(ArgAction::Append)
         .num_args(1..)
-        .help("A file or a device with the memory of a ramoops region; - is standard input");
+        .help(
+            "A file or device: a ramoops region, a kernel's text log, or one of them as gzip; - is standard input",
+        );
     with_text(alloc, command.arg(symbols)?)?.arg(images)
 }
 

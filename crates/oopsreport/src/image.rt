@@ -2,6 +2,7 @@
 ghost use Rattle.std.specs.Prelude.{◌≡◌, ◌+◌, length, None};
 ghost use Rattle.report_run.specs.Runs.{IsUnopened};
 
+use crate::unpacking::{is_packed, unpacked};
 use anyhow::{Result, bail};
 use outside::{Failed, FileLoad, Load};
 use report_run::{Failure, Images};
@@ -17,7 +18,7 @@ const PIECE: usize = 65_536;
 #[derive(Drop)]
 enum Kind<R: Runtime> {
     File(FileLoad<R>),
-    /// Of standard input or a device: its front.
+    /// Of standard input or a device its front, of a compressed file all that it stands for.
     Front(Vec<u8>),
 }
 
@@ -108,14 +109,21 @@ fn open<R: Runtime, S: Read>(
     most: u32,
 ) -> Result<Kind<R>> {
     if path == "-" {
-        return Ok(Kind::Front(front_of(alloc, input, most as usize)?));
+        return Ok(Kind::Front(unpacked(alloc, front_of(alloc, input, most as usize)?)?));
     }
     let metadata = fs::metadata(rt, path)?;
     if metadata.is_dir() {
         bail!("it is a folder");
     }
     if metadata.is_file() {
-        return Ok(Kind::File(FileLoad::new(rt, alloc, path)?));
+        let mut file = FileLoad::new(rt, alloc, path)?;
+        return match is_packed(&mut file) {
+            true => Ok(Kind::Front(unpacked(
+                alloc,
+                Vec::from_slice(alloc, &fs::read(rt, path)?)?,
+            )?)),
+            false => Ok(Kind::File(file)),
+        };
     }
     let mut device = fs::File::open(rt, path)?;
     Ok(Kind::Front(front_of(alloc, &mut device, most as usize)?))

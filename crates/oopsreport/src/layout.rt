@@ -412,6 +412,7 @@ pub fn asked_by<R: Runtime>(
             format,
             lines,
             map,
+            logs: words.is_empty() && memory.is_none() && !matches.get_flag("region"),
             saves: matches.get_str("save").is_some(),
             counts: terminal.is_errors,
         },

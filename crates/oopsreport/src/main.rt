@@ -6,6 +6,7 @@ mod folder;
 mod image;
 mod layout;
 mod memory;
+mod unpacking;
 
 use anyhow::{Result, anyhow, bail};
 use clap::ArgMatches;

@@ -15,8 +15,8 @@ use Rattle.report_run.specs.declared.plans.Asked.{Asked}
 use Rattle.report_run.specs.declared.failures.Failure.{Failure}
 use Rattle.report_run.specs.Messages.{Seen}
 use Rattle.report_run.specs.Plans.{IsAskedPlan}
-use Rattle.report_run.specs.Images.{TellsLayout, IsNotTold, IsStopped, IsSoughtReport, IsNoSoughtReport, IsReport}
-use Rattle.report_run.specs.Images.{IsNoReport}
+use Rattle.report_run.specs.Images.{TellsLayout, IsNotTold, IsStopped, IsSoughtReport, IsNoSoughtReport}
+use Rattle.report_run.specs.Reports.{IsReport, IsNoReport}
 
 -- lines that were told raised no count of faults
 settled : (format : Format) (lines : List ℕ) (given now : Option (List ℕ)) (before after : ℕ) (a b : Seen)

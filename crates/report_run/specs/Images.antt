@@ -10,8 +10,6 @@ use Rattle.report_tool.specs.declared.showing.Format.{Format}
 use Rattle.report_tool.specs.declared.showing.Format.TheVariants.{Text}
 use Rattle.report_tool.specs.Images.{IsReported, IsNotReported}
 use Rattle.report_entry.specs.declared.reports.HintedPlan.{HintedPlan}
-use Rattle.report_entry.specs.declared.laying.Layouts.{Layouts}
-use Rattle.report_entry.specs.declared.laying.Layouts.TheVariants.{Given, Sought}
 use Rattle.report_run.specs.declared.plans.Asked.{Asked}
 use Rattle.report_run.specs.declared.failures.Failure.{Failure}
 use Rattle.report_run.specs.declared.failures.Failure.TheVariants.{Unwritten}
@@ -98,30 +96,3 @@ IsNoSoughtReport asked known path holds read_before read_now given now put_befor
     IsUnplanned known path holds read_before read_now given now a b why
     ⊎ (IsUntold asked known path holds given now put_before put_now a b why
     ⊎ IsUnreported asked known path holds read_before read_now given now put_before put_now a b why)
-
--- ---- any image
-
-pub record IsGivenReport (asked : Asked) (plan : Plan) (path : List ℕ) (holds given now : Option (List ℕ)) (a b : Seen)
-    (report : ReportHeld) : Type 0 where
-  pub reported : IsReported asked.format path plan holds given now report
-  pub silent : b ≡ a
-
-abbrev pub IsReport : Layouts → Asked → List ℕ → Option (List ℕ) → Option (List ℕ) → Option (List ℕ) → Seen → Seen
-    → ReportHeld → Type 0
-IsReport (Given plan) asked path holds given now a b report =
-    IsGivenReport asked plan path holds given now a b report
-IsReport (Sought known) asked path holds given now a b report =
-    IsSoughtReport asked known path holds given now a b report
-
-pub record IsNoGivenReport (asked : Asked) (plan : Plan) (path : List ℕ) (holds : Option (List ℕ))
-    (read_before read_now : ℕ) (given now : Option (List ℕ)) (put_before put_now : ℕ) (a b : Seen) (why : Failure)
-    : Type 0 where
-  pub cause : IsStopped asked.format path plan holds read_before read_now given now put_before put_now why
-  pub silent : b ≡ a
-
-abbrev pub IsNoReport : Layouts → Asked → List ℕ → Option (List ℕ) → ℕ → ℕ → Option (List ℕ) → Option (List ℕ)
-    → ℕ → ℕ → Seen → Seen → Failure → Type 0
-IsNoReport (Given plan) asked path holds read_before read_now given now put_before put_now a b why =
-    IsNoGivenReport asked plan path holds read_before read_now given now put_before put_now a b why
-IsNoReport (Sought known) asked path holds read_before read_now given now put_before put_now a b why =
-    IsNoSoughtReport asked known path holds read_before read_now given now put_before put_now a b why

@@ -2,4 +2,6 @@ pub mod Failures
 pub mod Messages
 pub mod Plans
 pub mod Images
+pub mod Logs
+pub mod Reports
 pub mod Runs

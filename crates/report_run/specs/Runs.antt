@@ -12,7 +12,7 @@ use Rattle.report_run.specs.declared.plans.Asked.{Asked}
 use Rattle.report_run.specs.declared.failures.Failure.{Failure}
 use Rattle.report_run.specs.declared.failures.Failure.TheVariants.{Memory, Unopened, Unsaved}
 use Rattle.report_run.specs.Messages.{Seen, IsMessage, IsCounted}
-use Rattle.report_run.specs.Images.{IsReport, IsNoReport}
+use Rattle.report_run.specs.Reports.{IsReport, IsNoReport}
 
 -- the outputs, and the files that were made
 pub record State : Type 0 where

@@ -2,10 +2,11 @@
 ghost use Rattle.std.specs.Prelude.{◌≡◌, ◌≤◌, MatchResult};
 ghost use Rattle.report_run.specs.Messages.{seen};
 ghost use Rattle.report_run.specs.Images.{TellsLayout, IsNotTold, IsStopped, IsSoughtReport, IsNoSoughtReport};
-ghost use Rattle.report_run.specs.Images.{IsReport, IsNoReport};
+ghost use Rattle.report_run.specs.Reports.{IsUnknownReport, IsNoUnknownReport, IsReport, IsNoReport};
 ghost use Rattle.report_tool.specs.Images.{IsReported};
 
 use crate::failures::{Failure, stop_failure};
+use crate::logs::{held_log, report_log};
 use crate::messages::Messages;
 use crate::plans::{Asked, sought_plan};
 use outside::{Failed, Load, Sink};
@@ -88,8 +89,34 @@ fn sought_report<M: Load, O: Sink, E: Sink>(
     report_by(alloc, &told.plan, asked.format, path, image, out)
 }
 
+// The report of an image of which no layout is known: as a text log, or by a layout that is looked for.
+fn unknown_report<M: Load, O: Sink, E: Sink>(
+    alloc: Global,
+    asked: &Asked,
+    known: &Known,
+    path: &str,
+    image: &mut M,
+    out: &mut O,
+    messages: &mut Messages<E>,
+) -> Result<Report, Failure>
+    ensures reported { MatchResult result
+        (IsUnknownReport asked.now known.now path.now (M.holds image.old) (O.given out.old) (O.given out.new)
+        (seen (E.given messages.old.errors) (E.faults messages.old.errors) messages.old.is_lost)
+        (seen (E.given messages.new.errors) (E.faults messages.new.errors) messages.new.is_lost))
+        (IsNoUnknownReport asked.now known.now path.now (M.holds image.old) (M.faults image.old)
+        (M.faults image.new) (O.given out.old) (O.given out.new) (O.faults out.old) (O.faults out.new)
+        (seen (E.given messages.old.errors) (E.faults messages.old.errors) messages.old.is_lost)
+        (seen (E.given messages.new.errors) (E.faults messages.new.errors) messages.new.is_lost)) }
+    ensures same { M.holds image.new ≡ M.holds image.old }
+{
+    match held_log(alloc, asked.logs, image)? {
+        Some(log) => report_log(alloc, asked, log, path, out),
+        None => sought_report(alloc, asked, known, path, image, out, messages),
+    }
+}
+
 /// The report of an image: the lines on its layout, where that is looked for, and then what the format shows. A text
-/// has the lines above it; else standard error is given them.
+/// has the lines above it; else standard error is given them. A text log is reported as the region that holds it.
 pub fn report_image<M: Load, O: Sink, E: Sink>(
     alloc: Global,
     asked: &Asked,
@@ -110,6 +137,6 @@ pub fn report_image<M: Load, O: Sink, E: Sink>(
 {
     match &asked.layouts {
         Layouts::Given(plan) => report_by(alloc, plan, asked.format, path, image, out),
-        Layouts::Sought(known) => sought_report(alloc, asked, known, path, image, out, messages),
+        Layouts::Sought(known) => unknown_report(alloc, asked, known, path, image, out, messages),
     }
 }

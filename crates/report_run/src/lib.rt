@@ -4,6 +4,7 @@
 
 mod failures;
 mod images;
+mod logs;
 mod messages;
 mod plans;
 mod running;

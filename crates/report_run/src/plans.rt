@@ -20,6 +20,8 @@ pub struct Asked {
     pub lines: usize,
     /// The map of the kernel's functions.
     pub map: Option<Vec<u8>>,
+    /// Whether an image of which no layout is known is looked at for a text log.
+    pub logs: bool,
     /// Whether the records are saved.
     pub saves: bool,
     /// Whether standard error is told how many of several images are done.

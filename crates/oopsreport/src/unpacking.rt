@@ -1,0 +1,63 @@
+// Files that a program compressed.
+use anyhow::{Result, anyhow, bail};
+use compression::{Compression, compression_of};
+use gzip::{GzipError, GzipFault, gunzip};
+use outside::Load;
+use std::alloc::{AllocError, Global};
+
+/// So many bytes of a text or an image are read from a compressed file.
+const MOST: usize = 268_435_456;
+
+/// How many of a file's first bytes tell by what it is compressed.
+const FRONT: usize = 6;
+
+/// Whether a file begins as a compressed one does.
+pub fn is_packed<M: Load>(file: &mut M) -> bool {
+    let mut front = [0; FRONT];
+    match file.size() {
+        Ok(size) if size >= FRONT as u64 => {
+            file.read_at(0, &mut front).is_ok()
+                && !matches!(compression_of(&front), None | Some(Compression::Zlib))
+        }
+        _ => false,
+    }
+}
+
+// What is wrong with a gzip file.
+fn fault_text(fault: GzipFault) -> &'static str {
+    match fault {
+        GzipFault::NotGzip => "it does not begin as one",
+        GzipFault::TrailingBytes => "other bytes follow it",
+        GzipFault::UnknownMethod => "its method is unknown",
+        GzipFault::ReservedFlag => "a flag in its header has no meaning",
+        GzipFault::CutHeader | GzipFault::CutTrailer => "it breaks off",
+        GzipFault::HeaderCrc => "its header's CRC is wrong",
+        GzipFault::Body { .. } => "its body is no DEFLATE stream, or breaks off",
+        GzipFault::TextCrc => "its CRC is wrong",
+        GzipFault::TextLength => "its length is wrong",
+    }
+}
+
+fn gunzipped(alloc: Global, bytes: &[u8]) -> Result<Vec<u8>> {
+    match gunzip(alloc, bytes, MOST) {
+        Ok(text) => Ok(text),
+        Err(GzipError::Memory) => Err(AllocError.into()),
+        Err(GzipError::TooLong { .. }) => bail!("it is a gzip file of more than {MOST} bytes"),
+        Err(GzipError::Broken { fault, .. }) => Err(anyhow!(
+            "it is a gzip file, and {}",
+            fault_text(fault)
+        )),
+    }
+}
+
+/// What a compressed file stands for; any other bytes as they are.
+pub fn unpacked(alloc: Global, bytes: Vec<u8>) -> Result<Vec<u8>> {
+    match compression_of(&bytes) {
+        Some(Compression::Gzip) => gunzipped(alloc, &bytes),
+        Some(Compression::Zstd) => bail!("it is compressed by zstd: run zstd -d first"),
+        Some(Compression::Xz) => bail!("it is compressed by xz: run xz -d first"),
+        Some(Compression::Bzip2) => bail!("it is compressed by bzip2: run bzip2 -d first"),
+        Some(Compression::Lz4) => bail!("it is compressed by lz4: run lz4 -d first"),
+        Some(Compression::Zlib) | None => Ok(bytes),
+    }
+}

@@ -1,0 +1,86 @@
+-- The report of any image, and why there is none
+use Rattle.std.specs.Prelude.{◌≡◌, ◌⊎◌, ◌≤◌, ℕ, List, Option}
+use Rattle.layout_spec.specs.declared.Known.{Known}
+use Rattle.region_report.specs.Reports.{ReportHeld}
+use Rattle.report_tool.specs.declared.plan.Plan.{Plan}
+use Rattle.report_tool.specs.Images.{IsReported}
+use Rattle.report_entry.specs.declared.laying.Layouts.{Layouts}
+use Rattle.report_entry.specs.declared.laying.Layouts.TheVariants.{Given, Sought}
+use Rattle.report_run.specs.declared.plans.Asked.{Asked}
+use Rattle.report_run.specs.declared.failures.Failure.{Failure}
+use Rattle.report_run.specs.Messages.{Seen}
+use Rattle.report_run.specs.Images.{IsStopped, IsSoughtReport, IsNoSoughtReport}
+use Rattle.report_run.specs.Logs.{IsNoLog, IsUnlooked, IsLogReport, IsHeldUnreported}
+
+-- ---- an image of which no layout is known
+
+-- it is a text log
+pub record IsAsLog (asked : Asked) (path : List ℕ) (holds given now : Option (List ℕ)) (a b : Seen)
+    (report : ReportHeld) : Type 0 where
+  pub reported : IsLogReport asked path holds given now report
+  pub silent : b ≡ a
+
+-- or a layout was looked for
+pub record IsAsSought (asked : Asked) (known : Known) (path : List ℕ) (holds given now : Option (List ℕ)) (a b : Seen)
+    (report : ReportHeld) : Type 0 where
+  pub no_log : IsNoLog asked.logs holds
+  pub reported : IsSoughtReport asked known path holds given now a b report
+
+abbrev pub IsUnknownReport : Asked → Known → List ℕ → Option (List ℕ) → Option (List ℕ) → Option (List ℕ)
+    → Seen → Seen → ReportHeld → Type 0
+IsUnknownReport asked known path holds given now a b report =
+    IsAsLog asked path holds given now a b report ⊎ IsAsSought asked known path holds given now a b report
+
+-- it could not be read: nothing was given out
+pub record IsUnseenLog (read_before read_now : ℕ) (given now : Option (List ℕ)) (a b : Seen) (why : Failure)
+    : Type 0 where
+  pub cause : IsUnlooked read_before read_now why
+  pub unput : now ≡ given
+  pub silent : b ≡ a
+
+pub record IsNotAsLog (asked : Asked) (path : List ℕ) (holds given now : Option (List ℕ)) (put_before put_now : ℕ)
+    (a b : Seen) (why : Failure) : Type 0 where
+  pub cause : IsHeldUnreported asked path holds given now put_before put_now why
+  pub silent : b ≡ a
+
+pub record IsNotAsSought (asked : Asked) (known : Known) (path : List ℕ) (holds : Option (List ℕ))
+    (read_before read_now : ℕ) (given now : Option (List ℕ)) (put_before put_now : ℕ) (a b : Seen) (why : Failure)
+    : Type 0 where
+  pub no_log : IsNoLog asked.logs holds
+  pub read_between : ℕ
+  pub later : read_before ≤ read_between
+  pub cause : IsNoSoughtReport asked known path holds read_between read_now given now put_before put_now a b why
+
+abbrev pub IsNoUnknownReport : Asked → Known → List ℕ → Option (List ℕ) → ℕ → ℕ → Option (List ℕ) → Option (List ℕ)
+    → ℕ → ℕ → Seen → Seen → Failure → Type 0
+IsNoUnknownReport asked known path holds read_before read_now given now put_before put_now a b why =
+    IsUnseenLog read_before read_now given now a b why
+    ⊎ (IsNotAsLog asked path holds given now put_before put_now a b why
+    ⊎ IsNotAsSought asked known path holds read_before read_now given now put_before put_now a b why)
+
+-- ---- any image
+
+pub record IsGivenReport (asked : Asked) (plan : Plan) (path : List ℕ) (holds given now : Option (List ℕ)) (a b : Seen)
+    (report : ReportHeld) : Type 0 where
+  pub reported : IsReported asked.format path plan holds given now report
+  pub silent : b ≡ a
+
+abbrev pub IsReport : Layouts → Asked → List ℕ → Option (List ℕ) → Option (List ℕ) → Option (List ℕ) → Seen → Seen
+    → ReportHeld → Type 0
+IsReport (Given plan) asked path holds given now a b report =
+    IsGivenReport asked plan path holds given now a b report
+IsReport (Sought known) asked path holds given now a b report =
+    IsUnknownReport asked known path holds given now a b report
+
+pub record IsNoGivenReport (asked : Asked) (plan : Plan) (path : List ℕ) (holds : Option (List ℕ))
+    (read_before read_now : ℕ) (given now : Option (List ℕ)) (put_before put_now : ℕ) (a b : Seen) (why : Failure)
+    : Type 0 where
+  pub cause : IsStopped asked.format path plan holds read_before read_now given now put_before put_now why
+  pub silent : b ≡ a
+
+abbrev pub IsNoReport : Layouts → Asked → List ℕ → Option (List ℕ) → ℕ → ℕ → Option (List ℕ) → Option (List ℕ)
+    → ℕ → ℕ → Seen → Seen → Failure → Type 0
+IsNoReport (Given plan) asked path holds read_before read_now given now put_before put_now a b why =
+    IsNoGivenReport asked plan path holds read_before read_now given now put_before put_now a b why
+IsNoReport (Sought known) asked path holds read_before read_now given now put_before put_now a b why =
+    IsNoUnknownReport asked known path holds read_before read_now given now put_before put_now a b why
