@@ -87,6 +87,9 @@ WorkedFaults =
     × (told (codes "x run mem_size=16384 ftrace_size=0") (replicate 16383 0) []
     ≡ (codes "image has 16383 bytes, 16384 needed\n", 4))
     × (told (codes "x") [] [] ≡ (codes "usage: oopsbox IMAGE COMMAND key=value ..\n", 2))
+    × (told (codes "--help") [] [] ≡ (codes "usage: oopsbox IMAGE COMMAND key=value ..\n", 2))
+    × (told (codes "-h") [] [] ≡ (codes "usage: oopsbox IMAGE COMMAND key=value ..\n", 2))
+    × (told (codes "help") [] [] ≡ (codes "usage: oopsbox IMAGE COMMAND key=value ..\n", 2))
     × (told (codes "x walk") [] [] ≡ (codes "usage: oopsbox IMAGE COMMAND key=value ..\n", 2))
     × (told (codes "x extract") [] [] ≡ (codes "usage: oopsbox IMAGE COMMAND key=value ..\n", 2))
     × (told (codes "x make 01") [] [] ≡ (codes "usage: oopsbox IMAGE COMMAND key=value ..\n", 2))
