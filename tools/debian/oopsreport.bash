@@ -16,7 +16,7 @@ _oopsreport()
             compopt -o filenames ;;
         *)
             if [[ $word == -* ]]; then
-                mapfile -t COMPREPLY < <(compgen -W "--param --cmdline --cmdline-file --kernel --dtb --node --mem-as-given --memory --at --memory-at
+                mapfile -t COMPREPLY < <(compgen -W "--param --cmdline --cmdline-file --kernel --dtb --node --mem-as-given --region --memory --at --memory-at
                     --symbols --lines --color --format --save --help --version" -- "$word")
             else
                 mapfile -t COMPREPLY < <(compgen -f -- "$word")

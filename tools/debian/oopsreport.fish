@@ -9,6 +9,7 @@ complete -c oopsreport -l kernel -x -d "The version of the kernel that wrote the
 complete -c oopsreport -l dtb -r -F -d "A board's flattened device tree"
 complete -c oopsreport -l node -x -d "The ramoops node of the device tree"
 complete -c oopsreport -l mem-as-given -d "Do not round mem_size down to a power of two"
+complete -c oopsreport -l region -d "Take each image as a region, also a text log"
 complete -c oopsreport -l memory -d "Each image is a copy of all memory"
 complete -c oopsreport -l at -x -d "The region at this place of the memory"
 complete -c oopsreport -l memory-at -x -d "The physical address of the memory's first byte"

@@ -10,6 +10,7 @@ _arguments \
     '--dtb[a flattened device tree of a board]:file:_files' \
     '--node[the ramoops node of the device tree]:path:' \
     '--mem-as-given[do not round mem_size down to a power of two]' \
+    '--region[take each image as a region, also a text log]' \
     '--memory[each image is a copy of all memory]' \
     '--at[the region at this place of the memory]:place:' \
     '--memory-at[the physical address of the first byte of the memory]:address:' \
