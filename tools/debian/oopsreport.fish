@@ -17,6 +17,8 @@ complete -c oopsreport -l symbols -r -F -d "A System.map, for the functions of f
 complete -c oopsreport -l lines -x -d "Last lines of the newest dump"
 complete -c oopsreport -l color -x -a "auto always never" -d "Colours of a text"
 complete -c oopsreport -l format -x -a "text json html" -d "What a report is made as"
+complete -c oopsreport -l json -d "As --format json"
+complete -c oopsreport -l html -d "As --format html"
 complete -c oopsreport -l save -x -a "(__fish_complete_directories)" -d "A folder for the records"
 complete -c oopsreport -l help -d "Print the options"
 complete -c oopsreport -l version -d "Print the version"

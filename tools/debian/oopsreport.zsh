@@ -18,6 +18,8 @@ _arguments \
     '--lines[last lines of the newest dump]:number:' \
     '--color[colours of a text]:when:(auto always never)' \
     '--format[what a report is made as]:format:(text json html)' \
+    '--json[as --format json]' \
+    '--html[as --format html]' \
     '--save[a folder for the records]:folder:_files -/' \
     '--help[print the options]' \
     '--version[print the version]' \

@@ -83,6 +83,20 @@ fn with_memory<'a>(alloc: Global, command: Command<'a>) -> Result<Command<'a>, A
     command.arg(from)
 }
 
+// The formats by a word each.
+fn with_formats<'a>(alloc: Global, command: Command<'a>) -> Result<Command<'a>, AllocError> {
+    let json = Arg::new(alloc, "json")
+        .long("json")
+        .action(ArgAction::SetTrue)
+        .help("As --format json");
+    let html = Arg::new(alloc, "html")
+        .long("html")
+        .action(ArgAction::SetTrue)
+        .conflicts_with("json")?
+        .help("As --format html");
+    command.arg(json)?.arg(html)
+}
+
 // What is done with the images, and the images.
 fn with_work<'a>(alloc: Global, command: Command<'a>) -> Result<Command<'a>, AllocError> {
     let format = Arg::new(alloc, "format")
@@ -91,7 +105,7 @@ fn with_work<'a>(alloc: Global, command: Command<'a>) -> Result<Command<'a>, All
         .value_parser(FORMATS.as_slice())
         .default_value("text")
         .help("How the report is written");
-    let command = command.arg(format)?;
+    let command = with_formats(alloc, command.arg(format)?)?;
     let save = Arg::new(alloc, "save").long("save").value_name("DIR").help(
         "Save each record in this folder under its pstore name; no file is overwritten",
     );

@@ -16,13 +16,14 @@ use std::{fs, io};
 /// How many names are tried for a file of its own.
 const NAMES: u32 = 100;
 
-/// A folder by its path, and what went wrong last.
+/// A folder by its path, and what went wrong last, with the name of the file.
 #[derive(Drop)]
 struct Dir<R: Files> {
     rt: R,
     alloc: Global,
     path: String,
     faults: u64,
+    name: String,
     error: Option<io::Error>,
 }
 
@@ -35,13 +36,17 @@ impl<R: Files + Drop> Dir<R> {
             alloc,
             path: String::from_str(alloc, path)?,
             faults: 0,
+            name: String::new(alloc),
             error: None,
         })
     }
 
-    /// Why the last file was not made.
-    fn error(&self) -> Option<&io::Error> {
-        self.error.as_ref()
+    /// Which file was not made, and why.
+    fn fault(&self) -> anyhow::Error {
+        match &self.error {
+            Some(e) => anyhow!("{}/{} was not saved: {e}", self.path, self.name),
+            None => anyhow!("{}/{} was not saved", self.path, self.name),
+        }
     }
 }
 
@@ -115,6 +120,7 @@ impl<R: Files + Drop> Folder for Dir<R> {
         match make_file(&self.rt, self.alloc, self.path.as_str(), name, content) {
             Ok(()) => Ok(()),
             Err(e) => {
+                self.name = String::from_str(self.alloc, name).unwrap_or(String::new(self.alloc));
                 self.error = Some(e);
                 self.faults = self.faults.saturating_add(1);
                 Err(Failed)
@@ -128,10 +134,7 @@ fn save_in<R: Runtime>(rt: &R, alloc: Global, folder: &str, report: &Report) -> 
     let mut dir = Dir::new(rt.clone()?, alloc, folder).context(format_args!("{folder}"))?;
     match save(&mut dir, report) {
         Ok(()) => Ok(()),
-        Err(_) => match dir.error() {
-            Some(e) => Err(anyhow!("a record was not saved in {folder}: {e}")),
-            None => Err(anyhow!("a record was not saved in {folder}")),
-        },
+        Err(_) => Err(dir.fault()),
     }
 }
 

@@ -255,6 +255,12 @@ impl Asked {
 
 /// How a report is written.
 pub fn format(matches: &ArgMatches<'_>) -> Format {
+    if matches.get_flag("json") {
+        return Format::Json;
+    }
+    if matches.get_flag("html") {
+        return Format::Html;
+    }
     match matches.get_str("format") {
         Some("json") => Format::Json,
         Some("html") => Format::Html,

@@ -34,7 +34,9 @@ layout_words c size = memory_words c size ++ size_words c ++ ftrace_words c
 -- ---- a layout that is taken
 
 abbrev pub faults_text : ℕ → List ℕ
-faults_text faults = if faults == 0 then [] else codes ", but for " ++ decimal faults ++ codes " places"
+faults_text faults =
+    if faults == 0 then []
+    else codes " with " ++ decimal faults ++ (if faults == 1 then codes " fault" else codes " faults")
 
 unfoldable pub found_line : List ℕ → ℕ → ℕ → List ℕ → List ℕ
 found_line name size faults words =
@@ -56,7 +58,7 @@ AreAlike (Ok one) (Err fault) = ⊥
 AreAlike (Err fault) other = ⊥
 
 abbrev pub rival_front : Bool → List ℕ
-rival_front true = codes "kinds are taken for likely; the same zones could be: "
+rival_front true = codes "zone kinds are a best guess; also possible: "
 rival_front false = codes "another layout explains as much: "
 
 unfoldable pub rival_text : Bool → List ℕ → List ℕ

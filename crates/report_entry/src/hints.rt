@@ -89,8 +89,8 @@ fn faults_text(alloc: Global, faults: u64) -> Result<String, AllocError>
     if faults == 0 {
         return Ok(text);
     }
-    push_number(alloc, &mut text, ", but for ", faults)?;
-    text.push_str(" places")?;
+    push_number(alloc, &mut text, " with ", faults)?;
+    text.push_str(if faults == 1 { " fault" } else { " faults" })?;
     Ok(text)
 }
 
@@ -156,7 +156,7 @@ fn rival_text(alloc: Global, alike: bool, words: &str) -> Result<String, AllocEr
     ensures { IfOk result (λ text. string_bytes text ≡ rival_text alike words.now) }
 {
     let what = match alike {
-        true => "kinds are taken for likely; the same zones could be: ",
+        true => "zone kinds are a best guess; also possible: ",
         false => "another layout explains as much: ",
     };
     let mut text = String::from_str(alloc, what)?;
