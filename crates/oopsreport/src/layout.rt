@@ -118,7 +118,10 @@ fn told(words: &[String], fault: ParamFault) -> anyhow::Error {
     let (place, what) = match fault {
         ParamFault::UnknownKey(place) => (place, "is no parameter of the layout"),
         ParamFault::Twice(place) => (place, "gives a parameter again"),
-        ParamFault::NotANumber(place) => (place, "gives no number below 4294967296"),
+        ParamFault::NotANumber(place) => (
+            place,
+            "gives no number below 4294967296 (a size is in bytes, without k or M)",
+        ),
     };
     match words.get(place as usize) {
         Some(word) => anyhow!("{word} {what}"),
