@@ -23,8 +23,8 @@ warning said = Words OPENING.now ∷ Words said ∷ Words CLOSING.now ∷ []
 -- the console tells, and not this dump
 abbrev pub lacking : Name → List Part
 lacking dump =
-    Words OPENING.now ∷ Words (codes "The console tells it. The newest dump, ") ∷ Link dump
-    ∷ Words (codes ", lacks its last telling line.") ∷ Words CLOSING.now ∷ []
+    Words OPENING.now ∷ Words (codes "The reason comes from the console; the newest dump, ") ∷ Link dump
+    ∷ Words (codes ", does not contain it.") ∷ Words CLOSING.now ∷ []
 
 abbrev pub console_warning : Option RecordShown → Option DeathTold → List Part
 console_warning None told = []

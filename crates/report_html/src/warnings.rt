@@ -37,9 +37,9 @@ fn add_lacking(pieces: &mut Vec<Piece<'_>>, dump: Name) -> Result<(), AllocError
         pieces,
         &[
             Piece::Own(OPENING),
-            Piece::Own("The console tells it. The newest dump, "),
+            Piece::Own("The reason comes from the console; the newest dump, "),
             Piece::Link(dump),
-            Piece::Own(", lacks its last telling line."),
+            Piece::Own(", does not contain it."),
             Piece::Own(CLOSING),
         ],
     )

@@ -14,7 +14,7 @@ pub const NAVIGATION: &str =
 /// After the number of records.
 pub const LEVELS: &str = "</h2>\n<p class=\"note\">\
 The number before a line is its level: 0 emergency, 1 alert, 2 critical, 3 error, 4 warning, \
-5 notice, 6 info, 7 debug. One of 8 or more is of user space; its level is the number modulo 8. \
+5 notice, 6 info, 7 debug. A number of 8 or more comes from user space; its level is that number modulo 8. \
 The console keeps no levels.</p>\n";
 
 pub const END: &str =
@@ -22,10 +22,10 @@ pub const END: &str =
 every other byte, and the backslash, is shown as <span class=\"mono\">\\x</span> and two hexadecimal digits.</p>\n\
 </footer>\n</body>\n</html>\n";
 
-pub const NO_CPU: &str = "<tr><th scope=\"row\">CPU</th><td>none is named below this line</td></tr>\n";
+pub const NO_CPU: &str = "<tr><th scope=\"row\">CPU</th><td>not recorded</td></tr>\n";
 
 pub const NO_FUNCTION: &str =
-    "<tr><th scope=\"row\">Function</th><td>none is named below this line</td></tr>\n";
+    "<tr><th scope=\"row\">Function</th><td>not recorded</td></tr>\n";
 
 /// Between the table of what is known and the lines that tell it.
 pub const TOLD: &str =
