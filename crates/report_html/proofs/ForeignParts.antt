@@ -142,7 +142,8 @@ of-rows ss = none-of spot_parts of-spot ss
 of-spots : (ss : List Spot) → foreign_of (spots_parts ss) ≡ []
 of-spots [] = refl
 of-spots (s ∷ ss) =
-    both (spots_opening (length (s ∷ ss)) ++ flat_map spot_parts (s ∷ ss)) (Words (codes "</table></div>\n</details>\n") ∷ [])
+    both (spots_opening (length (s ∷ ss)) ++ flat_map spot_parts (s ∷ ss))
+    (Words (codes "</table></div>\n</details>\n") ∷ [])
     ∙ rw (of-rows (s ∷ ss)) refl
 
 of-picture : (zones : List Zone) (report : ReportHeld) → foreign_of (picture zones report) ≡ []
@@ -201,7 +202,8 @@ of-begin number (Some g) = refl
 
 of-edge : (number before after : Option ℕ) → foreign_of (edge_parts number before after) ≡ []
 of-edge number before after =
-    of-choice (is_same before after) [] (end_parts before ++ begin_parts number after) refl (simp (both, of-end, of-begin))
+    of-choice (is_same before after) [] (end_parts before ++ begin_parts number after) refl
+    (simp (both, of-end, of-begin))
 
 of-records : (zones : List Saved) (grouped : Bool) (number before : Option ℕ) (rs : List RecordShown)
     → foreign_of (records_after zones grouped number before rs) ≡ flat_map record_bytes rs

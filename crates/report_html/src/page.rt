@@ -6,7 +6,8 @@ ghost use Rattle.zone_spec.specs.Parts.{AreBytes};
 ghost use Rattle.report_spec.specs.Packed.{readable};
 ghost use Rattle.report_html.specs.Pieces.{parts};
 ghost use Rattle.report_html.specs.Pages.{time_parts, length_parts, packing_parts, content_parts, record_parts};
-ghost use Rattle.report_html.specs.Pages.{records_after, list_parts, records_opening, heading_parts, page_parts, page_of};
+ghost use Rattle.report_html.specs.Pages.{records_after, list_parts, records_opening, heading_parts};
+ghost use Rattle.report_html.specs.Pages.{page_parts, page_of};
 ghost use Rattle.report_spec.specs.Deaths.{death_told};
 ghost use Rattle.report_html.specs.Escaping.{HoldBytes, AllTellBytes, IsWithoutMarkup};
 

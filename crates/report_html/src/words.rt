@@ -24,8 +24,7 @@ every other byte, and the backslash, is shown as <span class=\"mono\">\\x</span>
 
 pub const NO_CPU: &str = "<tr><th scope=\"row\">CPU</th><td>not recorded</td></tr>\n";
 
-pub const NO_FUNCTION: &str =
-    "<tr><th scope=\"row\">Function</th><td>not recorded</td></tr>\n";
+pub const NO_FUNCTION: &str = "<tr><th scope=\"row\">Function</th><td>not recorded</td></tr>\n";
 
 /// Between the table of what is known and the lines that tell it.
 pub const TOLD: &str =
