@@ -57,10 +57,12 @@ use Rattle.report_html.specs.Listed.{fold_parts, below_bytes, telling_bytes, abo
 use Rattle.report_html.specs.Causes.{CrashShown, crash_of, is_dump, crashes_of, with_first, firsts_of, rows_of}
 use Rattle.report_html.specs.Causes.{has_line_of, time_cell, newest_cells, row_parts as dumps_parts}
 use Rattle.report_html.specs.Causes.{line_part, cause_parts, others_parts, table_parts, table_of}
-use Rattle.report_html.specs.Causes.{line_bytes, lines_of, causes_bytes}
+use Rattle.report_html.specs.Causes.{causes_parts, line_bytes, lines_of, causes_bytes}
+use Rattle.report_html.specs.Parameters.{parameters_parts}
+use Rattle.report_html.specs.declared.words.TheConstants.{END}
 use Rattle.report_html.specs.Groups.{are_grouped, group_in, is_same, end_parts, begin_parts, edge_parts}
 use Rattle.report_html.specs.Pages.{time_parts, packing_parts, record_parts}
-use Rattle.report_html.specs.Pages.{records_after, page_with}
+use Rattle.report_html.specs.Pages.{records_after, list_parts, records_opening, heading_parts, page_with}
 use Rattle.report_html.specs.Pages.{page_parts}
 use Rattle.report_html.specs.Reads.{counted_parts, number_parts, read_parts}
 use Rattle.report_html.specs.Warnings.{lacking, console_warning, teller_warning}
@@ -71,6 +73,12 @@ use Rattle.report_html.proofs.Texts.{is-text}
 
 both : (a b : List Part) → foreign_of (a ++ b) ≡ foreign_of a ++ foreign_of b
 both a b = flat_map-append foreign_in a b
+
+and-of : (a b : List Part) (x y : List (List ℕ)) → foreign_of a ≡ x → foreign_of b ≡ y → foreign_of (a ++ b) ≡ x ++ y
+and-of a b x y e f = both a b ∙ ap₂ (λ (u v : List (List ℕ)). u ++ v) e f
+
+and-none : (a b : List Part) (x : List (List ℕ)) → foreign_of a ≡ x → foreign_of b ≡ [] → foreign_of (a ++ b) ≡ x
+and-none a b x e f = and-of a b x [] e f ∙ append-nil x
 
 none-of : {X : Type 0} (f : X → List Part) → ((x : X) → foreign_of (f x) ≡ []) → (xs : List X)
     → foreign_of (flat_map f xs) ≡ []
@@ -190,7 +198,7 @@ of-read zones name = simp (both, of-number)
 
 of-record : (zones : List Saved) (is_open : Bool) (r : RecordShown)
     → foreign_of (record_parts zones is_open r) ≡ record_bytes r
-of-record zones is_open r = simp (both, of-say, of-fold, of-time, of-packing, of-read, append-nil)
+of-record zones is_open r = simp (both, of-say, of-fold, of-time, of-packing, of-number, append-nil)
 
 of-end : (group : Option ℕ) → foreign_of (end_parts group) ≡ []
 of-end None = refl
@@ -260,7 +268,7 @@ of-before (Some t) = simp (both, of-after)
 
 of-death : (records : List RecordShown) (t : DeathTold) → foreign_of (death_parts records t)
     ≡ death_bytes (readable t.teller) t.death (told_before t.teller.name records)
-of-death records t = simp (both, of-when, of-context, of-before, of-around, append-nil)
+of-death records t = simp (both, of-when, of-fact, of-before, of-around, append-nil)
 
 of-died : (records : List RecordShown) (t : Option DeathTold)
     → foreign_of (died_parts records t) ≡ died_bytes records t
@@ -296,7 +304,7 @@ of-cell (Some time) = refl
 
 of-newest : (newest : Option RecordShown) → foreign_of (newest_cells newest) ≡ []
 of-newest None = refl
-of-newest (Some r) = simp (both, of-cell)
+of-newest (Some r) = simp of-cell
 
 of-dumps : (line : Part) (crashes : List CrashShown) → foreign_of (dumps_parts line crashes) ≡ foreign_in line
 of-dumps line crashes = simp (both, of-newest, append-nil)
@@ -337,10 +345,32 @@ of-page : (title : List ℕ) (p : Params) (zones : List Zone) (report : ReportHe
     ≡ title ∷ why_bytes told ++ died_bytes report.records told ++ causes_bytes report.records
     ++ flat_map record_bytes report.records
 of-page title p zones report told =
-    let listed = of-records (saved report.logs) (are_grouped zones) (unfolded (newest report.records) told) None
-    report.records in
-    let drawn = of-picture zones report in
-    simp (both, of-why, of-warnings, of-died, of-causes, listed, drawn, append-nil)
+    let head : List Part = heading_parts title in
+    let why : List Part = why_parts told in
+    let warned : List Part = warnings_parts report told in
+    let died : List Part = died_parts report.records told in
+    let opened : List Part = records_opening (length report.records) in
+    let causes : List Part = causes_parts report.records in
+    let records : List Part = list_parts zones report told in
+    let drawn : List Part = picture zones report in
+    let w : List (List ℕ) = why_bytes told in
+    let d : List (List ℕ) = died_bytes report.records told in
+    let l : List (List ℕ) = causes_bytes report.records in
+    let m : List (List ℕ) = flat_map record_bytes report.records in
+    let number : Option ℕ = unfolded (newest report.records) told in
+    and-none (head ++ why ++ warned ++ died ++ opened ++ causes ++ records ++ drawn ++ parameters_parts p)
+    (Words END.now ∷ []) (title ∷ w ++ d ++ l ++ m)
+    (and-none (head ++ why ++ warned ++ died ++ opened ++ causes ++ records ++ drawn) (parameters_parts p)
+    (title ∷ w ++ d ++ l ++ m)
+    (and-none (head ++ why ++ warned ++ died ++ opened ++ causes ++ records) drawn (title ∷ w ++ d ++ l ++ m)
+    (and-of (head ++ why ++ warned ++ died ++ opened ++ causes) records (title ∷ w ++ d ++ l) m
+    (and-of (head ++ why ++ warned ++ died ++ opened) causes (title ∷ w ++ d) l
+    (and-none (head ++ why ++ warned ++ died) opened (title ∷ w ++ d)
+    (and-of (head ++ why ++ warned) died (title ∷ w) d
+    (and-none (head ++ why) warned (title ∷ w) (and-of head why (title ∷ []) w refl (of-why told))
+    (of-warnings report told)) (of-died report.records told)) refl) (of-causes (crashes_of report.records)))
+    (of-records (saved report.logs) (are_grouped zones) number None report.records)) (of-picture zones report)) refl)
+    refl
 
 -- ---- each of them is escaped to text
 

@@ -1,0 +1,7 @@
+-- Two rows, one after the other
+use Rattle.std.proofs.Common.{append_assoc}
+use Rattle.report_html.proofs.parameters.add_ftrace.Goals as goal
+
+pub returns : goal.returns
+returns c =
+    simp (c.in_ok-add_parameter-2.ensures, c.in_ok-add_parameter.ensures, c.from.ensures, append_assoc)
