@@ -3,7 +3,7 @@ use Rattle.std.proofs.Common.{◌≡◌, ℕ, zero, suc, ◌+◌, ◌<◌, ◌�
 use Rattle.std.proofs.Common.{◌++◌, length, slice_get, map, take, drop, ◌-◌, ◌*◌, ◌/◌, All, Option, Some, None, codes}
 use Rattle.std.proofs.Common.{append_assoc, refl, sym, ap, ap₂, ◌∙◌, subst, append-nil, get_or, inl, inr, arith}
 use Rattle.std.specs.Prelude.{⊤, filter, flat_map}
-use Rattle.std.specs.List.{count_by, fold, list_any, zip}
+use Rattle.std.specs.List.{fold, list_any, zip}
 use Rattle.std.specs.Option.{option_map}
 use Rattle.std.proofs.lemmas.Bool.{cases_order}
 use Rattle.std.proofs.lemmas.List.Elements.{All-cons, All-nil}
@@ -23,7 +23,7 @@ use Rattle.zone_spec.specs.PartStates.{PartStates}
 use Rattle.report_spec.specs.declared.Packing.{Packing}
 use Rattle.report_spec.specs.declared.Packing.TheVariants.{Plain, Whole, Part as PartOfText}
 use Rattle.report_spec.specs.Packed.{RecordShown, readable}
-use Rattle.report_spec.specs.Newest.{newest, is_console, console_of}
+use Rattle.report_spec.specs.Newest.{newest, is_console}
 use Rattle.report_spec.specs.Deaths.{DeathTold, death_told}
 use Rattle.zone_spec.specs.Reading.{ZoneReading}
 use Rattle.death_spec.specs.declared.Line.{Line}
@@ -32,43 +32,41 @@ use Rattle.death_spec.specs.declared.Death.{Death}
 use Rattle.death_spec.specs.Lines.{part}
 use Rattle.death_spec.specs.Reports.{death_of}
 use Rattle.prz_read.specs.Saving.{saved}
-use Rattle.pstore_records.specs.Counts.{corrected_in, bad_in}
-use Rattle.region_report.specs.Counted.{zones_counted}
 use Rattle.prz_region.proofs.Chains.{AreBytes-take, AreBytes-drop}
 use Rattle.region_report.specs.Reports.{ReportHeld}
-use Rattle.report_html.specs.Pieces.{Part, Words, Count, Bytes, parts_text}
+use Rattle.report_html.specs.Pieces.{Part, Words, Bytes, parts_text}
 use Rattle.report_html.specs.declared.spots.Stretch.{Stretch}
 use Rattle.report_html.specs.declared.spots.Stretch.TheVariants.{Header, Blocks}
 use Rattle.report_html.specs.declared.spots.Spot.{Spot}
-use Rattle.report_html.specs.Spots.{spots_of, stretch_parts, place_of, size_of, verdict_parts, spot_parts}
+use Rattle.report_html.specs.Spots.{stretch_parts, verdict_parts, spot_parts}
 use Rattle.report_html.specs.Spots.{spots_opening, spots_parts}
 use Rattle.report_html.specs.Regions.{picture}
-use Rattle.report_html.specs.Pictures.{numbers_parts, range_parts, blocks_opening, class_words, part_words, cell}
-use Rattle.report_html.specs.Pictures.{zone_name, place_parts, bar_parts, fitting_parts, label_parts, map_parts}
-use Rattle.report_html.specs.Pictures.{closing, corrected_parts, header_parts, blocks_parts, run_parts, runs}
-use Rattle.report_html.specs.Pictures.{unused_parts, row_parts, zone_parts, drawn_parts, width_of, region_opening}
-use Rattle.report_html.specs.Pictures.{key_words, table_words, all_drawn}
-use Rattle.report_html.specs.Names.{name_parts, link_parts, time_parts}
-use Rattle.report_html.specs.Before.{told_before, time_after, line_below, before_parts, before_bytes}
-use Rattle.report_html.specs.Died.{second_parts, said_parts, why_parts, fact_parts, stamp_of, when_parts, no_cpu}
-use Rattle.report_html.specs.Died.{no_function, context_parts, place_above, below, rest_parts, around_parts}
-use Rattle.report_html.specs.Died.{console_words, teller_parts, death_parts, died_parts, second_bytes, named_bytes}
+use Rattle.report_html.specs.Pictures.{numbers_parts}
+use Rattle.report_html.specs.Pictures.{fitting_parts, label_parts, map_parts}
+use Rattle.report_html.specs.Pictures.{corrected_parts, header_parts, blocks_parts, run_parts, runs}
+use Rattle.report_html.specs.Pictures.{unused_parts, row_parts, zone_parts, drawn_parts, width_of}
+use Rattle.report_html.specs.Pictures.{all_drawn}
+use Rattle.report_html.specs.Before.{told_before, time_after, before_parts, before_bytes}
+use Rattle.report_html.specs.Died.{second_parts, said_parts, why_parts, fact_parts, stamp_of, when_parts}
+use Rattle.report_html.specs.Died.{context_parts, place_above, below, rest_parts, around_parts}
+use Rattle.report_html.specs.Died.{death_parts, died_parts, second_bytes, named_bytes}
 use Rattle.report_html.specs.Died.{said_bytes, why_bytes, context_bytes, rest_bytes, around_bytes, death_bytes}
 use Rattle.report_html.specs.Died.{died_bytes}
-use Rattle.report_html.specs.Listed.{below_parts, telling_parts, above_parts, say_parts, unfolded, is_unfolded}
+use Rattle.report_html.specs.Listed.{below_parts, telling_parts, above_parts, say_parts, unfolded}
 use Rattle.report_html.specs.Listed.{fold_parts, below_bytes, telling_bytes, above_bytes, record_bytes}
 use Rattle.report_html.specs.Causes.{CrashShown, crash_of, is_dump, crashes_of, with_first, firsts_of, rows_of}
-use Rattle.report_html.specs.Causes.{has_no_row, has_line_of, time_cell, newest_cells, row_parts as dumps_parts}
-use Rattle.report_html.specs.Causes.{line_part, cause_parts, others_parts, causes_words, table_parts, table_of}
+use Rattle.report_html.specs.Causes.{has_line_of, time_cell, newest_cells, row_parts as dumps_parts}
+use Rattle.report_html.specs.Causes.{line_part, cause_parts, others_parts, table_parts, table_of}
 use Rattle.report_html.specs.Causes.{causes_parts, line_bytes, lines_of, causes_bytes}
+use Rattle.report_html.specs.Parameters.{parameters_parts}
+use Rattle.report_html.specs.declared.words.TheConstants.{END}
 use Rattle.report_html.specs.Groups.{are_grouped, group_in, is_same, end_parts, begin_parts, edge_parts}
-use Rattle.report_html.specs.Pages.{length_parts, packing_parts, content_parts, record_parts, listed_parts}
-use Rattle.report_html.specs.Pages.{records_after, list_parts, records_opening, heading_parts, end_words, page_with}
+use Rattle.report_html.specs.Pages.{time_parts, packing_parts, record_parts}
+use Rattle.report_html.specs.Pages.{records_after, list_parts, records_opening, heading_parts, page_with}
 use Rattle.report_html.specs.Pages.{page_parts}
 use Rattle.report_html.specs.Reads.{counted_parts, number_parts, read_parts}
-use Rattle.report_html.specs.Parameters.{parameters_parts}
-use Rattle.report_html.specs.Warnings.{lacking, console_warning, tells_badly, teller_warning, has_bad_header}
-use Rattle.report_html.specs.Warnings.{bad_headers, headers_warning, has_log, has_bad_part, layout_warning}
+use Rattle.report_html.specs.Warnings.{lacking, console_warning, teller_warning}
+use Rattle.report_html.specs.Warnings.{bad_headers, headers_warning, layout_warning}
 use Rattle.report_html.specs.Warnings.{warnings_parts}
 use Rattle.report_html.specs.Escaping.{foreign_in, foreign_of, HoldBytes, TellsBytes, AllTellBytes, IsWithoutMarkup}
 use Rattle.report_html.proofs.Texts.{is-text}
@@ -76,90 +74,55 @@ use Rattle.report_html.proofs.Texts.{is-text}
 both : (a b : List Part) → foreign_of (a ++ b) ≡ foreign_of a ++ foreign_of b
 both a b = flat_map-append foreign_in a b
 
-none-and : (a b : List Part) → foreign_of a ≡ [] → foreign_of (a ++ b) ≡ foreign_of b
-none-and a b e = both a b ∙ ap (λ (bs : List (List ℕ)). bs ++ foreign_of b) e
-
-none-of : {X : Type 0} (f : X → List Part) → ((x : X) → foreign_of (f x) ≡ []) → (xs : List X)
-    → foreign_of (flat_map f xs) ≡ []
-none-of f each [] = refl
-none-of f each (x ∷ xs) = none-and (f x) (flat_map f xs) (each x) ∙ none-of f each xs
-
 and-of : (a b : List Part) (x y : List (List ℕ)) → foreign_of a ≡ x → foreign_of b ≡ y → foreign_of (a ++ b) ≡ x ++ y
 and-of a b x y e f = both a b ∙ ap₂ (λ (u v : List (List ℕ)). u ++ v) e f
 
 and-none : (a b : List Part) (x : List (List ℕ)) → foreign_of a ≡ x → foreign_of b ≡ [] → foreign_of (a ++ b) ≡ x
 and-none a b x e f = and-of a b x [] e f ∙ append-nil x
 
+none-of : {X : Type 0} (f : X → List Part) → ((x : X) → foreign_of (f x) ≡ []) → (xs : List X)
+    → foreign_of (flat_map f xs) ≡ []
+none-of f each [] = refl
+none-of f each (x ∷ xs) = both (f x) (flat_map f xs) ∙ rw (each x) (none-of f each xs)
+
+of-choice : (t : Bool) (a b : List Part) → foreign_of a ≡ [] → foreign_of b ≡ [] → foreign_of (cond t a b) ≡ []
+of-choice true a b e f = e
+of-choice false a b e f = f
+
 -- ---- the picture has none
 
-of-corrected : (s : Option PartState) (rest : List Part) → foreign_of (corrected_parts s ++ rest) ≡ foreign_of rest
-of-corrected None rest = refl
-of-corrected (Some Bad) rest = refl
-of-corrected (Some (Read n)) rest = by (n == 0)
-  where
-    by : (t : Bool) → foreign_of (cond t [] (Words (codes ", bytes corrected in each: ") ∷ Count n ∷ []) ++ rest)
-        ≡ foreign_of rest
-    by true = refl
-    by false = refl
+of-corrected : (s : Option PartState) → foreign_of (corrected_parts s) ≡ []
+of-corrected None = refl
+of-corrected (Some Bad) = refl
+of-corrected (Some (Read n)) = of-choice (n == 0) [] _ refl refl
 
 of-header : (s : Option PartState) → foreign_of (header_parts s) ≡ []
-of-header s = of-corrected s closing
+of-header s = simp (both, of-corrected)
 
-of-numbers : (from to : ℕ) (rest : List Part) → foreign_of (numbers_parts from to ++ rest) ≡ foreign_of rest
-of-numbers from to rest = by (to - from == 1)
-  where
-    by : (t : Bool) → foreign_of (cond t (Count from ∷ []) (Count from ∷ Words (codes " to ") ∷ Count (to - 1) ∷ []) ++ rest)
-        ≡ foreign_of rest
-    by true = refl
-    by false = refl
-
-of-range : (from to : ℕ) (words : List ℕ) → foreign_of (range_parts from to words) ≡ []
-of-range from to words = of-numbers from to (Words (codes ", ") ∷ Words words ∷ [])
+of-numbers : (from to : ℕ) → foreign_of (numbers_parts from to) ≡ []
+of-numbers from to = of-choice (to - from == 1) _ _ refl refl
 
 of-blocks : (z : Zone) (from to : ℕ) (s : Option PartState) → foreign_of (blocks_parts z from to s) ≡ []
-of-blocks z from to s =
-    let front : List Part = blocks_opening z from to (class_words s) in
-    let range : List Part = range_parts from to (part_words s) in
-    none-and (front ++ range ++ corrected_parts s) closing
-    (none-and (front ++ range) (corrected_parts s) (none-and front range refl ∙ of-range from to (part_words s))
-    ∙ ap foreign_of (sym (append-nil (corrected_parts s))) ∙ of-corrected s [])
+of-blocks z from to s = simp (both, of-numbers, of-corrected)
+
+of-runs : (z : Zone) (blocks : List PartState) → foreign_of (flat_map (run_parts z) (runs 0 blocks)) ≡ []
+of-runs z blocks = none-of (run_parts z) (λ r. of-blocks z r.from r.to (Some r.state)) (runs 0 blocks)
 
 of-unused : (z : Zone) (used : ℕ) → foreign_of (unused_parts z used) ≡ []
-of-unused z used = by (nat_lt used z.blocks)
-  where
-    by : (t : Bool) → foreign_of (cond t (blocks_parts z used z.blocks None) []) ≡ []
-    by true = of-blocks z used z.blocks None
-    by false = refl
+of-unused z used = of-choice (nat_lt used z.blocks) _ [] (of-blocks z used z.blocks None) refl
 
 of-row : (z : Zone) (r : Option ZoneReading) → foreign_of (row_parts z r) ≡ []
 of-row z None = refl
 of-row z (Some r) = refl
 
 of-zone : (d : Saved × PartStates) → foreign_of (zone_parts d) ≡ []
-of-zone d =
-    let row : List Part = row_parts d.0.0 d.0.1 in
-    let header : List Part = header_parts (Some d.1.header) in
-    let blocks : List Part = flat_map (run_parts d.0.0) (runs 0 d.1.blocks) in
-    let unused : List Part = unused_parts d.0.0 (length d.1.blocks) in
-    let end : List Part = Words (codes "</svg></td></tr>\n") ∷ [] in
-    none-and (row ++ header ++ blocks ++ unused) end
-    (none-and (row ++ header ++ blocks) unused
-    (none-and (row ++ header) blocks (none-and row header (of-row d.0.0 d.0.1) ∙ of-header (Some d.1.header))
-    ∙ none-of (run_parts d.0.0) (λ r. of-blocks d.0.0 r.from r.to (Some r.state)) (runs 0 d.1.blocks))
-    ∙ of-unused d.0.0 (length d.1.blocks))
+of-zone d = simp (both, of-row, of-header, of-runs, of-unused)
 
 of-label : (z : Zone) (whole : ℕ) → foreign_of (label_parts z whole) ≡ []
-of-label z whole = by (nat_lt (16 * z.size) whole)
-  where
-    by : (t : Bool) → foreign_of (cond t [] (fitting_parts z whole)) ≡ []
-    by true = refl
-    by false = refl
+of-label z whole = of-choice (nat_lt (16 * z.size) whole) [] (fitting_parts z whole) refl refl
 
 of-map : (whole : ℕ) (z : Zone) (r : Option ZoneReading) → foreign_of (map_parts whole z r) ≡ []
-of-map whole z r =
-    let front : List Part = place_parts whole z ++ zone_name z ++ bar_parts z r in
-    none-and (front ++ label_parts z whole) (Words (codes "</svg>\n") ∷ [])
-    (none-and front (label_parts z whole) refl ∙ of-label z whole)
+of-map whole z r = simp (both, of-label)
 
 of-drawn : (in_table : Bool) (whole : ℕ) (d : Saved × PartStates) → foreign_of (drawn_parts in_table whole d) ≡ []
 of-drawn true whole d = of-zone d
@@ -170,54 +133,29 @@ of-all in_table zones report =
     none-of (drawn_parts in_table (width_of zones)) (of-drawn in_table (width_of zones))
     (zip (zip zones report.logs.readings) report.parts)
 
-of-stretch : (stretch : Stretch) (rest : List Part) → foreign_of (stretch_parts stretch ++ rest) ≡ foreign_of rest
-of-stretch Header rest = refl
-of-stretch (Blocks from to) rest = of-numbers from to rest
+of-stretch : (stretch : Stretch) → foreign_of (stretch_parts stretch) ≡ []
+of-stretch Header = refl
+of-stretch (Blocks from to) = of-numbers from to
 
-of-verdict : (stretch : Stretch) (state : PartState) (rest : List Part)
-    → foreign_of (verdict_parts stretch state ++ rest) ≡ foreign_of rest
-of-verdict stretch (Read n) rest = refl
-of-verdict stretch Bad rest = refl
+of-verdict : (stretch : Stretch) (state : PartState) → foreign_of (verdict_parts stretch state) ≡ []
+of-verdict stretch (Read n) = refl
+of-verdict stretch Bad = refl
 
 of-spot : (s : Spot) → foreign_of (spot_parts s) ≡ []
-of-spot s =
-    let front : List Part =
-    Words (codes "<tr><th scope=\"row\">") ∷ [] ++ zone_name s.zone ++ Words (codes "</th><td class=\"n\">") ∷ [] in
-    let cells : List Part =
-    Words cell ∷ Count (place_of s.zone s.stretch) ∷ Words cell ∷ Count (size_of s.zone s.stretch)
-    ∷ Words (codes "</td><td>") ∷ [] in
-    let end : List Part = Words (codes "</td></tr>\n") ∷ [] in
-    let whole : foreign_of (front ++ stretch_parts s.stretch) ≡ [] =
-    none-and front (stretch_parts s.stretch) refl
-    ∙ ap foreign_of (sym (append-nil (stretch_parts s.stretch))) ∙ of-stretch s.stretch [] in
-    none-and (front ++ stretch_parts s.stretch ++ cells ++ verdict_parts s.stretch s.state) end
-    (none-and (front ++ stretch_parts s.stretch ++ cells) (verdict_parts s.stretch s.state)
-    (none-and (front ++ stretch_parts s.stretch) cells whole)
-    ∙ ap foreign_of (sym (append-nil (verdict_parts s.stretch s.state))) ∙ of-verdict s.stretch s.state [])
+of-spot s = simp (both, of-stretch, of-verdict)
+
+of-rows : (ss : List Spot) → foreign_of (flat_map spot_parts ss) ≡ []
+of-rows ss = none-of spot_parts of-spot ss
 
 of-spots : (ss : List Spot) → foreign_of (spots_parts ss) ≡ []
 of-spots [] = refl
 of-spots (s ∷ ss) =
-    let front : List Part = spots_opening (length (s ∷ ss)) in
-    let rows : List Part = flat_map spot_parts (s ∷ ss) in
-    none-and (front ++ rows) (Words (codes "</table></div>\n</details>\n") ∷ [])
-    (none-and front rows refl ∙ none-of spot_parts of-spot (s ∷ ss))
+    both (spots_opening (length (s ∷ ss)) ++ flat_map spot_parts (s ∷ ss))
+    (Words (codes "</table></div>\n</details>\n") ∷ [])
+    ∙ rw (of-rows (s ∷ ss)) refl
 
 of-picture : (zones : List Zone) (report : ReportHeld) → foreign_of (picture zones report) ≡ []
-of-picture zones report =
-    let open_map : List Part = region_opening (width_of zones) (length zones) in
-    let map_drawn : List Part = all_drawn false zones report in
-    let key : List Part = Words key_words ∷ [] in
-    let spots : List Part = spots_parts (spots_of zones report.parts) in
-    let open_table : List Part = Words table_words ∷ [] in
-    let table : List Part = all_drawn true zones report in
-    none-and (open_map ++ map_drawn ++ key ++ spots ++ open_table ++ table) (Words (codes "</table></div>\n") ∷ [])
-    (none-and (open_map ++ map_drawn ++ key ++ spots ++ open_table) table
-    (none-and (open_map ++ map_drawn ++ key ++ spots) open_table
-    (none-and (open_map ++ map_drawn ++ key) spots
-    (none-and (open_map ++ map_drawn) key (none-and open_map map_drawn refl ∙ of-all false zones report))
-    ∙ of-spots (spots_of zones report.parts)))
-    ∙ of-all true zones report)
+of-picture zones report = simp (both, of-all, of-spots)
 
 -- ---- a record has what people read of it
 
@@ -237,19 +175,11 @@ of-above Pmsg text = refl
 of-above Ftrace text = refl
 
 of-say : (name : Name) (text : List ℕ) → foreign_of (say_parts name text) ≡ above_bytes name text
-of-say name text =
-    and-none (Words (codes "<pre class=\"say\">") ∷ [] ++ above_parts name text) (Words (codes "</pre>\n") ∷ [])
-    (above_bytes name text) (of-above name text) refl
+of-say name text = simp (both, of-above, append-nil)
 
 of-fold : (is_open : Bool) → foreign_of (fold_parts is_open) ≡ []
 of-fold true = refl
 of-fold false = refl
-
-of-name : (name : Name) → foreign_of (name_parts name) ≡ []
-of-name (Dump index packed) = refl
-of-name Console = refl
-of-name Pmsg = refl
-of-name Ftrace = refl
 
 of-time : (time : Option Time) → foreign_of (time_parts time) ≡ []
 of-time None = refl
@@ -260,48 +190,15 @@ of-packing Plain = refl
 of-packing (Whole taken) = refl
 of-packing (PartOfText fault text) = refl
 
-of-content : (name : Name) (text : List ℕ) → foreign_of (content_parts name text) ≡ text ∷ []
-of-content (Dump index packed) text = refl
-of-content Console text = refl
-of-content Pmsg text = refl
-of-content Ftrace text = refl
-
 of-number : (words : List ℕ) (n : ℕ) → foreign_of (number_parts words n) ≡ []
-of-number words n = by (nat_lt 0 n)
-  where
-    by : (t : Bool) → foreign_of (cond t (counted_parts words n) []) ≡ []
-    by true = refl
-    by false = refl
+of-number words n = of-choice (nat_lt 0 n) (counted_parts words n) [] refl refl
 
 of-read : (zones : List Saved) (name : Name) → foreign_of (read_parts zones name) ≡ []
-of-read zones name =
-    let bad : List Part = number_parts (codes "<span class=\"bad\">bad ") (bad_in name (zones_counted name zones)) in
-    let fixed : List Part =
-    number_parts (codes "<span class=\"fix\">corrected ") (corrected_in name (zones_counted name zones)) in
-    none-and bad fixed (of-number (codes "<span class=\"bad\">bad ") (bad_in name (zones_counted name zones)))
-    ∙ of-number (codes "<span class=\"fix\">corrected ") (corrected_in name (zones_counted name zones))
+of-read zones name = simp (both, of-number)
 
 of-record : (zones : List Saved) (is_open : Bool) (r : RecordShown)
     → foreign_of (record_parts zones is_open r) ≡ record_bytes r
-of-record zones is_open r =
-    let text : List ℕ = readable r in
-    let a : List (List ℕ) = above_bytes r.name text in
-    let say : List Part = say_parts r.name text in
-    let folded : List Part = say ++ fold_parts is_open in
-    let named : List Part = folded ++ name_parts r.name in
-    let ended : List Part = named ++ Words (codes "</b>") ∷ [] in
-    let timed : List Part = ended ++ time_parts r.time in
-    let long : List Part = timed ++ length_parts (length r.content) in
-    let packed : List Part = long ++ packing_parts r.packing in
-    and-of (packed ++ read_parts zones r.name) (content_parts r.name text) a (text ∷ [])
-    (and-none packed (read_parts zones r.name) a
-    (and-none long (packing_parts r.packing) a
-    (and-none timed (length_parts (length r.content)) a
-    (and-none ended (time_parts r.time) a
-    (and-none named (Words (codes "</b>") ∷ []) a
-    (and-none folded (name_parts r.name) a (and-none say (fold_parts is_open) a (of-say r.name text) (of-fold is_open))
-    (of-name r.name)) refl) (of-time r.time)) refl) (of-packing r.packing)) (of-read zones r.name))
-    (of-content r.name text)
+of-record zones is_open r = simp (both, of-say, of-fold, of-time, of-packing, of-number, append-nil)
 
 of-end : (group : Option ℕ) → foreign_of (end_parts group) ≡ []
 of-end None = refl
@@ -312,23 +209,16 @@ of-begin number None = refl
 of-begin number (Some g) = refl
 
 of-edge : (number before after : Option ℕ) → foreign_of (edge_parts number before after) ≡ []
-of-edge number before after = by (is_same before after)
-  where
-    by : (t : Bool) → foreign_of (cond t [] (end_parts before ++ begin_parts number after)) ≡ []
-    by true = refl
-    by false = none-and (end_parts before) (begin_parts number after) (of-end before) ∙ of-begin number after
+of-edge number before after =
+    of-choice (is_same before after) [] (end_parts before ++ begin_parts number after) refl
+    (simp (both, of-end, of-begin))
 
 of-records : (zones : List Saved) (grouped : Bool) (number before : Option ℕ) (rs : List RecordShown)
     → foreign_of (records_after zones grouped number before rs) ≡ flat_map record_bytes rs
 unfolding records_after
 of-records zones grouped number before [] = of-edge number before None
 of-records zones grouped number before (r ∷ rs) =
-    let group : Option ℕ = group_in grouped r.name in
-    let edge : List Part = edge_parts number before group in
-    let listed : List Part = listed_parts zones number r in
-    and-of (edge ++ listed) (records_after zones grouped number group rs) (record_bytes r) (flat_map record_bytes rs)
-    (none-and edge listed (of-edge number before group) ∙ of-record zones (is_unfolded number r.name) r)
-    (of-records zones grouped number group rs)
+    simp (both, of-edge, of-record, of-records zones grouped number (group_in grouped r.name) rs)
 
 -- ---- why the machine died has parts of the text that tells it
 
@@ -355,26 +245,7 @@ of-fact label missing text None = refl
 of-fact label missing text (Some span) = refl
 
 of-context : (text : List ℕ) (d : Death) → foreign_of (context_parts text d) ≡ context_bytes text d
-of-context text d =
-    let b : Option Span → List (List ℕ) = named_bytes text in
-    let stamp : List Part = fact_parts (codes "Seconds after boot") [] text (stamp_of d.telling) in
-    let cpu : List Part = fact_parts (codes "CPU") no_cpu text d.cpu in
-    let task : List Part = fact_parts (codes "Task") [] text d.task in
-    let kernel : List Part = fact_parts (codes "Kernel") [] text d.kernel in
-    let function : List Part = fact_parts (codes "Function") no_function text d.function in
-    and-of (stamp ++ cpu ++ task ++ kernel) function
-    (b (stamp_of d.telling) ++ b d.cpu ++ b d.task ++ b d.kernel) (b d.function)
-    (and-of (stamp ++ cpu ++ task) kernel (b (stamp_of d.telling) ++ b d.cpu ++ b d.task) (b d.kernel)
-    (and-of (stamp ++ cpu) task (b (stamp_of d.telling) ++ b d.cpu) (b d.task)
-    (and-of stamp cpu (b (stamp_of d.telling)) (b d.cpu) (of-fact (codes "Seconds after boot") [] text (stamp_of d.telling))
-    (of-fact (codes "CPU") no_cpu text d.cpu)) (of-fact (codes "Task") [] text d.task))
-    (of-fact (codes "Kernel") [] text d.kernel)) (of-fact (codes "Function") no_function text d.function)
-
-of-teller : (name : Name) (words : List ℕ) → foreign_of (teller_parts name words) ≡ []
-of-teller (Dump index packed) words = refl
-of-teller Console words = refl
-of-teller Pmsg words = refl
-of-teller Ftrace words = refl
+of-context text d = simp (both, of-fact)
 
 of-rest : (text : List ℕ) (at : ℕ) (second : Option Line)
     → foreign_of (rest_parts text at second) ≡ rest_bytes text at second
@@ -387,42 +258,17 @@ of-around text d =
     let line : List ℕ = part text d.telling.start d.telling.next in
     ap (λ (bs : List (List ℕ)). above ∷ line ∷ bs) (of-rest text d.telling.next d.second)
 
+of-after : (time : Option Time) → foreign_of (time_after time) ≡ []
+of-after None = refl
+of-after (Some time) = refl
+
 of-before : (before : Option DeathTold) → foreign_of (before_parts before) ≡ before_bytes before
 of-before None = refl
-of-before (Some t) = by t.teller.name t.teller.time
-  where
-    by : (name : Name) (time : Option Time)
-        → foreign_of (Words (codes "<tr><th scope=\"row\">Before it</th><td>") ∷ [] ++ link_parts name
-        ++ time_after time ++ line_below (readable t.teller) t.death.telling) ≡ before_bytes (Some t)
-    by (Dump index packed) None = refl
-    by (Dump index packed) (Some time) = refl
-    by Console None = refl
-    by Console (Some time) = refl
-    by Pmsg None = refl
-    by Pmsg (Some time) = refl
-    by Ftrace None = refl
-    by Ftrace (Some time) = refl
+of-before (Some t) = simp (both, of-after)
 
 of-death : (records : List RecordShown) (t : DeathTold) → foreign_of (death_parts records t)
     ≡ death_bytes (readable t.teller) t.death (told_before t.teller.name records)
-of-death records t =
-    let text : List ℕ = readable t.teller in
-    let before : Option DeathTold = told_before t.teller.name records in
-    let words : List ℕ = console_words t (console_of records) in
-    let when : List Part = when_parts t.teller.time in
-    let context : List Part = context_parts text t.death in
-    let earlier : List Part = before_parts before in
-    let teller : List Part = teller_parts t.teller.name words in
-    let around : List Part = around_parts text t.death in
-    let c : List (List ℕ) = context_bytes text t.death in
-    let a : List (List ℕ) = around_bytes text t.death in
-    let b : List (List ℕ) = before_bytes before in
-    and-none (when ++ context ++ earlier ++ teller ++ around) (Words (codes "</pre>\n") ∷ []) (c ++ b ++ a)
-    (and-of (when ++ context ++ earlier ++ teller) around (c ++ b) a
-    (and-none (when ++ context ++ earlier) teller (c ++ b)
-    (and-of (when ++ context) earlier c b
-    (none-and when context (of-when t.teller.time) ∙ of-context text t.death) (of-before before))
-    (of-teller t.teller.name words)) (of-around text t.death)) refl
+of-death records t = simp (both, of-when, of-fact, of-before, of-around, append-nil)
 
 of-died : (records : List RecordShown) (t : Option DeathTold)
     → foreign_of (died_parts records t) ≡ died_bytes records t
@@ -431,27 +277,11 @@ of-died records (Some t) = of-death records t
 
 -- ---- warnings have none
 
-of-link : (name : Name) → foreign_of (link_parts name) ≡ []
-of-link (Dump index packed) = refl
-of-link Console = refl
-of-link Pmsg = refl
-of-link Ftrace = refl
-
-of-lacking : (name : Name) → foreign_of (lacking name) ≡ []
-of-lacking (Dump index packed) = refl
-of-lacking Console = refl
-of-lacking Pmsg = refl
-of-lacking Ftrace = refl
-
-of-choice : (t : Bool) (a b : List Part) → foreign_of a ≡ [] → foreign_of b ≡ [] → foreign_of (cond t a b) ≡ []
-of-choice true a b e f = e
-of-choice false a b e f = f
-
 of-console : (dump : Option RecordShown) (told : Option DeathTold) → foreign_of (console_warning dump told) ≡ []
 of-console None told = refl
 of-console (Some dump) None = refl
 of-console (Some dump) (Some told) =
-    of-choice (is_console told.teller.name) (lacking dump.name) [] (of-lacking dump.name) refl
+    of-choice (is_console told.teller.name) (lacking dump.name) [] refl refl
 
 of-teller_warning : (badly : Bool) → foreign_of (teller_warning badly) ≡ []
 of-teller_warning badly = of-choice badly _ [] refl refl
@@ -464,78 +294,48 @@ of-layout logs bad zones =
     of-choice (logs == 0) _ _ refl (of-choice (nat_lt (zones / 2) bad) _ [] refl refl)
 
 of-warnings : (report : ReportHeld) (told : Option DeathTold) → foreign_of (warnings_parts report told) ≡ []
-of-warnings report told =
-    let lacks : List Part = console_warning (newest report.records) told in
-    let badly : Bool = tells_badly (saved report.logs) told in
-    let teller : List Part = teller_warning badly in
-    let headers : List Part = headers_warning (count_by has_bad_header report.parts) in
-    let layout : List Part =
-    layout_warning (count_by has_log report.parts) (count_by has_bad_part report.parts) (length report.parts) in
-    none-and (lacks ++ teller ++ headers) layout
-    (none-and (lacks ++ teller) headers (none-and lacks teller (of-console (newest report.records) told)
-    ∙ of-teller_warning badly) ∙ of-bad_headers (count_by has_bad_header report.parts))
-    ∙ of-layout (count_by has_log report.parts) (count_by has_bad_part report.parts) (length report.parts)
+of-warnings report told = simp (both, of-console, of-teller_warning, of-bad_headers, of-layout)
 
 -- ---- the table of dumps has telling lines
 
+of-cell : (time : Option Time) → foreign_of (time_cell time) ≡ []
+of-cell None = refl
+of-cell (Some time) = refl
+
 of-newest : (newest : Option RecordShown) → foreign_of (newest_cells newest) ≡ []
 of-newest None = refl
-of-newest (Some r) = by r.name r.time
-  where
-    by : (name : Name) (time : Option Time)
-        → foreign_of (link_parts name ++ Words (codes "</td><td>") ∷ [] ++ time_cell time) ≡ []
-    by (Dump index packed) None = refl
-    by (Dump index packed) (Some time) = refl
-    by Console None = refl
-    by Console (Some time) = refl
-    by Pmsg None = refl
-    by Pmsg (Some time) = refl
-    by Ftrace None = refl
-    by Ftrace (Some time) = refl
+of-newest (Some r) = simp of-cell
 
 of-dumps : (line : Part) (crashes : List CrashShown) → foreign_of (dumps_parts line crashes) ≡ foreign_in line
-of-dumps line crashes =
-    let front : List Part =
-    Words (codes "<tr><td class=\"n\">") ∷ Count (length crashes) ∷ Words (codes " &times;</td><td class=\"wrap\">")
-    ∷ line ∷ Words (codes "</td><td>") ∷ [] in
-    let held : Option RecordShown = newest (map (λ (c : CrashShown). c.dump) crashes) in
-    and-none (front ++ newest_cells held) (Words (codes "</td></tr>\n") ∷ []) (foreign_in line)
-    (and-none front (newest_cells held) (foreign_in line) (append-nil (foreign_in line)) (of-newest held)) refl
+of-dumps line crashes = simp (both, of-newest, append-nil)
 
 of-line : (line : Option (List ℕ)) → foreign_in (line_part line) ≡ line_bytes line
 of-line None = refl
 of-line (Some line) = refl
 
-of-rows : (crashes rows : List CrashShown)
+of-causes-rows : (crashes rows : List CrashShown)
     → foreign_of (flat_map (cause_parts crashes) rows) ≡ flat_map (λ (c : CrashShown). line_bytes c.line) rows
-of-rows crashes [] = refl
-of-rows crashes (row ∷ rows) =
-    and-of (cause_parts crashes row) (flat_map (cause_parts crashes) rows) (line_bytes row.line)
-    (flat_map (λ (c : CrashShown). line_bytes c.line) rows)
-    (of-dumps (line_part row.line) (filter (has_line_of row) crashes) ∙ of-line row.line) (of-rows crashes rows)
+of-causes-rows crashes [] = refl
+of-causes-rows crashes (row ∷ rows) =
+    both (cause_parts crashes row) (flat_map (cause_parts crashes) rows)
+    ∙ ap₂ (λ (u v : List (List ℕ)). u ++ v)
+    (of-dumps (line_part row.line) (filter (has_line_of row) crashes) ∙ of-line row.line)
+    (of-causes-rows crashes rows)
 
 of-others : (others : List CrashShown) → foreign_of (others_parts others) ≡ []
 of-others [] = refl
 of-others (c ∷ cs) = of-dumps (Words (codes "other telling lines")) (c ∷ cs)
 
+of-table : (crashes : List CrashShown)
+    → foreign_of (table_parts crashes) ≡ flat_map (λ (c : CrashShown). line_bytes c.line) (rows_of crashes)
+of-table crashes = simp (both, of-causes-rows, of-others, append-nil)
+
 of-causes : (crashes : List CrashShown) → foreign_of (table_of crashes) ≡ lines_of crashes
 of-causes crashes = by (nat_lt 1 (length crashes))
   where
-    rows : List Part
-    rows = flat_map (cause_parts crashes) (rows_of crashes)
-
-    others : List Part
-    others = others_parts (filter (has_no_row (rows_of crashes)) crashes)
-
-    lines : List (List ℕ)
-    lines = flat_map (λ (c : CrashShown). line_bytes c.line) (rows_of crashes)
-
-    by : (t : Bool) → foreign_of (cond t (table_parts crashes) []) ≡ cond t lines []
-    by true =
-        and-none (Words causes_words ∷ [] ++ rows ++ others) (Words (codes "</table></div>\n") ∷ []) lines
-        (and-none (Words causes_words ∷ [] ++ rows) others lines
-        (none-and (Words causes_words ∷ []) rows refl ∙ of-rows crashes (rows_of crashes))
-        (of-others (filter (has_no_row (rows_of crashes)) crashes))) refl
+    by : (t : Bool) → foreign_of (cond t (table_parts crashes) [])
+        ≡ cond t (flat_map (λ (c : CrashShown). line_bytes c.line) (rows_of crashes)) []
+    by true = of-table crashes
     by false = refl
 
 -- ---- the page has its title, those parts, and what people read of its records
@@ -559,7 +359,7 @@ of-page title p zones report told =
     let m : List (List ℕ) = flat_map record_bytes report.records in
     let number : Option ℕ = unfolded (newest report.records) told in
     and-none (head ++ why ++ warned ++ died ++ opened ++ causes ++ records ++ drawn ++ parameters_parts p)
-    (Words end_words ∷ []) (title ∷ w ++ d ++ l ++ m)
+    (Words END.now ∷ []) (title ∷ w ++ d ++ l ++ m)
     (and-none (head ++ why ++ warned ++ died ++ opened ++ causes ++ records ++ drawn) (parameters_parts p)
     (title ∷ w ++ d ++ l ++ m)
     (and-none (head ++ why ++ warned ++ died ++ opened ++ causes ++ records) drawn (title ∷ w ++ d ++ l ++ m)

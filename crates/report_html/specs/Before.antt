@@ -10,8 +10,7 @@ use Rattle.death_spec.specs.Lines.{part}
 use Rattle.report_spec.specs.Packed.{RecordShown, readable}
 use Rattle.report_spec.specs.Newest.{newest, is_newer}
 use Rattle.report_spec.specs.Deaths.{DeathTold, told_by}
-use Rattle.report_html.specs.Pieces.{Part, Words, Bytes, Moment}
-use Rattle.report_html.specs.Names.{link_parts}
+use Rattle.report_html.specs.Pieces.{Part, Words, Bytes, Moment, Link}
 
 -- ---- which record
 
@@ -55,8 +54,8 @@ line_below text line = Words (codes "\n") ∷ Bytes (part text line.text line.en
 abbrev pub before_parts : Option DeathTold → List Part
 before_parts None = []
 before_parts (Some t) =
-    Words (codes "<tr><th scope=\"row\">Before it</th><td>") ∷ [] ++ link_parts t.teller.name
-    ++ time_after t.teller.time ++ line_below (readable t.teller) t.death.telling
+    Words (codes "<tr><th scope=\"row\">Before it</th><td>") ∷ Link t.teller.name ∷ [] ++ time_after t.teller.time
+    ++ line_below (readable t.teller) t.death.telling
 
 -- what of it comes from the image
 abbrev pub before_bytes : Option DeathTold → List (List ℕ)

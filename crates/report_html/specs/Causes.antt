@@ -10,8 +10,8 @@ use Rattle.death_spec.specs.Reports.{death_of}
 use Rattle.report_spec.specs.Packed.{RecordShown, readable}
 use Rattle.report_spec.specs.Newest.{newest}
 use Rattle.report_html.specs.declared.causes.Crash.{Crash}
-use Rattle.report_html.specs.Pieces.{Part, Words, Count, Bytes, Moment}
-use Rattle.report_html.specs.Names.{link_parts}
+use Rattle.report_html.specs.declared.words.TheConstants.{CAUSES}
+use Rattle.report_html.specs.Pieces.{Part, Words, Count, Bytes, Moment, Link}
 use Rattle.report_html.specs.Listed.{dump_number}
 
 -- ---- the dumps
@@ -70,7 +70,7 @@ time_cell (Some time) = Moment time ∷ []
 -- a link to a dump, and its time
 abbrev pub newest_cells : Option RecordShown → List Part
 newest_cells None = Words (codes "</td><td>") ∷ []
-newest_cells (Some r) = link_parts r.name ++ Words (codes "</td><td>") ∷ [] ++ time_cell r.time
+newest_cells (Some r) = Link r.name ∷ Words (codes "</td><td>") ∷ [] ++ time_cell r.time
 
 -- how many dumps these are, what they tell, and the newest of them
 abbrev pub row_parts : Part → List CrashShown → List Part
@@ -92,16 +92,9 @@ abbrev pub others_parts : List CrashShown → List Part
 others_parts [] = []
 others_parts (c ∷ cs) = row_parts (Words (codes "other telling lines")) (c ∷ cs)
 
-abbrev pub causes_words : List ℕ
-causes_words =
-    codes "<div class=\"scroll\" tabindex=\"0\" role=\"region\" aria-label=\"Dumps by telling line\">"
-    ++ codes "<table class=\"grid stack\">\n<caption>Dumps by telling line</caption>\n"
-    ++ codes "<tr><th scope=\"col\" class=\"n\">Dumps</th><th scope=\"col\">Telling line</th>"
-    ++ codes "<th scope=\"col\">Newest of them</th><th scope=\"col\">Its time</th></tr>\n"
-
 abbrev pub table_parts : List CrashShown → List Part
 table_parts crashes =
-    Words causes_words ∷ [] ++ flat_map (cause_parts crashes) (rows_of crashes)
+    Words CAUSES.now ∷ [] ++ flat_map (cause_parts crashes) (rows_of crashes)
     ++ others_parts (filter (has_no_row (rows_of crashes)) crashes) ++ Words (codes "</table></div>\n") ∷ []
 
 -- one dump has no table

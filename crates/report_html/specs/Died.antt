@@ -10,8 +10,8 @@ use Rattle.death_spec.specs.Lines.{part, lines_from}
 use Rattle.report_spec.specs.Packed.{RecordShown, readable}
 use Rattle.report_spec.specs.Newest.{is_console, console_of}
 use Rattle.report_spec.specs.Deaths.{DeathTold, stamped, has_line}
-use Rattle.report_html.specs.Pieces.{Part, Words, Bytes, Moment, Log}
-use Rattle.report_html.specs.Names.{name_parts, link_parts}
+use Rattle.report_html.specs.declared.words.TheConstants.{NO_CPU, NO_FUNCTION, TOLD}
+use Rattle.report_html.specs.Pieces.{Part, Words, Bytes, Moment, Log, Named, Link}
 use Rattle.report_html.specs.Before.{told_before, before_parts, before_bytes}
 
 -- ---- the line
@@ -53,18 +53,13 @@ when_parts (Some time) =
     Words (codes "<table class=\"fact\">\n<tr><th scope=\"row\">When</th><td><b>") ∷ Moment time
     ∷ Words (codes "</b></td></tr>\n") ∷ []
 
-abbrev pub no_cpu : List ℕ
-no_cpu = codes "<tr><th scope=\"row\">CPU</th><td>none is named below this line</td></tr>\n"
-
-abbrev pub no_function : List ℕ
-no_function = codes "<tr><th scope=\"row\">Function</th><td>none is named below this line</td></tr>\n"
-
 -- what the report below the line names
 abbrev pub context_parts : List ℕ → Death → List Part
 context_parts text d =
-    fact_parts (codes "Seconds after boot") [] text (stamp_of d.telling) ++ fact_parts (codes "CPU") no_cpu text d.cpu
-    ++ fact_parts (codes "Task") [] text d.task ++ fact_parts (codes "Kernel") [] text d.kernel
-    ++ fact_parts (codes "Function") no_function text d.function
+    fact_parts (codes "Seconds after boot") [] text (stamp_of d.telling)
+    ++ fact_parts (codes "CPU") NO_CPU.now text d.cpu ++ fact_parts (codes "Task") [] text d.task
+    ++ fact_parts (codes "Kernel") [] text d.kernel
+    ++ fact_parts (codes "Function") NO_FUNCTION.now text d.function
 
 -- ---- the lines around it
 
@@ -131,9 +126,8 @@ console_words t (Some console) =
 -- which record tells: a link, whether the console tells the same, and the head of the lines
 abbrev pub teller_parts : Name → List ℕ → List Part
 teller_parts name words =
-    Words (codes "<tr><th scope=\"row\">Told by</th><td>") ∷ [] ++ link_parts name ++ Words words
-    ∷ Words (codes "</td></tr>\n</table>\n</header>\n<main>\n<h2 id=\"told\">The lines that tell it, in ") ∷ []
-    ++ name_parts name ++ Words (codes "</h2>\n<pre class=\"log\">\n") ∷ []
+    Words (codes "<tr><th scope=\"row\">Told by</th><td>") ∷ Link name ∷ Words words ∷ Words TOLD.now
+    ∷ Named name ∷ Words (codes "</h2>\n<pre class=\"log\">\n") ∷ []
 
 -- when, what is known, what was before it, by which record, and the lines
 abbrev pub death_parts : List RecordShown → DeathTold → List Part

@@ -8,7 +8,7 @@ use Rattle.report_html.specs.Before.{told_before}
 use Rattle.report_html.specs.Died.{why_bytes, died_bytes}
 use Rattle.report_html.specs.Causes.{causes_bytes}
 use Rattle.report_html.specs.Listed.{record_bytes}
-use Rattle.report_html.specs.Pieces.{Part, Words, Count, Bytes, Moment, Log, parts_text}
+use Rattle.report_html.specs.Pieces.{Part, Words, Count, Bytes, Moment, Log, Named, Link, parts_text}
 
 abbrev pub foreign_in : Part → List (List ℕ)
 foreign_in (Words text) = []
@@ -16,6 +16,8 @@ foreign_in (Count n) = []
 foreign_in (Bytes bytes) = bytes ∷ []
 foreign_in (Moment time) = []
 foreign_in (Log text) = text ∷ []
+foreign_in (Named name) = []
+foreign_in (Link name) = []
 
 -- the foreign bytes of parts, in order
 abbrev pub foreign_of : List Part → List (List ℕ)

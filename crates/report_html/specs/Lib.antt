@@ -5,7 +5,6 @@ pub mod Pictures
 pub mod Covers
 pub mod Spots
 pub mod Regions
-pub mod Names
 pub mod Before
 pub mod Died
 pub mod Warnings

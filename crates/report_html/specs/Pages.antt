@@ -1,6 +1,7 @@
 -- The page of a report
-use Rattle.std.specs.Prelude.{ℕ, Bool, List, [], ◌∷◌, ◌++◌, length, codes, Option, None}
+use Rattle.std.specs.Prelude.{ℕ, Bool, List, [], ◌∷◌, ◌++◌, length, codes, Option, Some, None}
 use Rattle.zone_spec.specs.declared.Name.{Name}
+use Rattle.zone_spec.specs.declared.Time.{Time}
 use Rattle.zone_spec.specs.declared.Zone.{Zone}
 use Rattle.zone_spec.specs.declared.params.Params.{Params}
 use Rattle.zone_spec.specs.Records.{Saved}
@@ -12,8 +13,8 @@ use Rattle.report_spec.specs.Newest.{newest}
 use Rattle.report_spec.specs.Deaths.{DeathTold, death_told}
 use Rattle.region_report.specs.Reports.{ReportHeld}
 use Rattle.report_html.specs.declared.style.TheConstants.{STYLE}
-use Rattle.report_html.specs.Pieces.{Part, Words, Count, Bytes, Log, parts_text}
-use Rattle.report_html.specs.Names.{name_parts, time_parts}
+use Rattle.report_html.specs.declared.words.TheConstants.{HEAD, NAVIGATION, LEVELS, END}
+use Rattle.report_html.specs.Pieces.{Part, Words, Count, Bytes, Moment, Log, Named, parts_text}
 use Rattle.report_html.specs.Died.{why_parts, died_parts}
 use Rattle.report_html.specs.Warnings.{warnings_parts}
 use Rattle.report_html.specs.Reads.{read_parts}
@@ -22,6 +23,10 @@ use Rattle.report_html.specs.Listed.{say_parts, fold_parts, is_unfolded, unfolde
 use Rattle.report_html.specs.Groups.{are_grouped, group_in, edge_parts}
 use Rattle.report_html.specs.Causes.{causes_parts}
 use Rattle.report_html.specs.Regions.{picture}
+
+abbrev pub time_parts : Option Time → List Part
+time_parts None = []
+time_parts (Some time) = Words (codes "<span>") ∷ Moment time ∷ Words (codes "</span>") ∷ []
 
 abbrev pub length_parts : ℕ → List Part
 length_parts bytes = Words (codes "<span>") ∷ Count bytes ∷ Words (codes " bytes</span>") ∷ []
@@ -37,14 +42,14 @@ packing_parts (PartOfText fault text) =
 -- its lines, with its name as their anchor
 abbrev pub content_parts : Name → List ℕ → List Part
 content_parts name content =
-    Words (codes "</summary>\n<pre class=\"log\" id=\"") ∷ [] ++ name_parts name
-    ++ Words (codes "\">\n") ∷ Log content ∷ Words (codes "</pre>\n</details>\n") ∷ []
+    Words (codes "</summary>\n<pre class=\"log\" id=\"") ∷ Named name ∷ Words (codes "\">\n") ∷ Log content
+    ∷ Words (codes "</pre>\n</details>\n") ∷ []
 
 -- a record, folded or not: above it the line that tells of it; its name, its time, the length of its file, its
 -- packing and how it read; and what people read of it
 abbrev pub record_parts : List Saved → Bool → RecordShown → List Part
 record_parts zones is_open r =
-    say_parts r.name (readable r) ++ fold_parts is_open ++ name_parts r.name ++ Words (codes "</b>") ∷ []
+    say_parts r.name (readable r) ++ fold_parts is_open ++ Named r.name ∷ Words (codes "</b>") ∷ []
     ++ time_parts r.time ++ length_parts (length r.content) ++ packing_parts r.packing
     ++ read_parts zones r.name ++ content_parts r.name (readable r)
 
@@ -66,37 +71,14 @@ list_parts zones report told =
 -- how many there are, and what the number of a line means
 abbrev pub records_opening : ℕ → List Part
 records_opening count =
-    Words (codes "<h2 id=\"records\">Records: ") ∷ Count count ∷ Words (codes "</h2>\n<p class=\"note\">"
-    ++ codes "The number before a line is its level: 0 emergency, 1 alert, 2 critical, 3 error, 4 warning, "
-    ++ codes "5 notice, 6 info, 7 debug. One of 8 or more is of user space; its level is the number modulo 8. "
-    ++ codes "The console keeps no levels.</p>\n") ∷ []
-
--- before the style sheet: no script, and nothing from elsewhere
-abbrev pub head_words : List ℕ
-head_words =
-    codes "<!doctype html>\n<html lang=\"en\">\n<head>\n<meta charset=\"utf-8\">\n"
-    ++ codes "<meta name=\"viewport\" content=\"width=device-width, initial-scale=1\">\n"
-    ++ codes "<meta http-equiv=\"Content-Security-Policy\" content=\"default-src 'none'; style-src 'unsafe-inline'\">\n"
-    ++ codes "<title>Crash log report</title>\n<style>\n"
-
-abbrev pub navigation_words : List ℕ
-navigation_words =
-    codes "</h1>\n<nav aria-label=\"Parts of this page\"><a href=\"#records\">Records</a> "
-    ++ codes "<a href=\"#region\">Region</a> <a href=\"#layout\">Parameters</a></nav>\n"
+    Words (codes "<h2 id=\"records\">Records: ") ∷ Count count ∷ Words LEVELS.now ∷ []
 
 -- a head with the style sheet, and the title
 abbrev pub heading_parts : List ℕ → List Part
 heading_parts title =
-    Words head_words ∷ Words STYLE.now
+    Words HEAD.now ∷ Words STYLE.now
     ∷ Words (codes "</style>\n</head>\n<body>\n<header>\n<h1>Why this machine died: ") ∷ Bytes title
-    ∷ Words navigation_words ∷ []
-
-abbrev pub end_words : List ℕ
-end_words =
-    codes "</main>\n<footer>\n<p>Times are UTC. Text of the region is printable ASCII, tabs and newlines; "
-    ++ codes "every other byte, and the backslash, is shown as <span class=\"mono\">\\x</span> "
-    ++ codes "and two hexadecimal digits.</p>\n"
-    ++ codes "</footer>\n</body>\n</html>\n"
+    ∷ Words NAVIGATION.now ∷ []
 
 -- the heading, why the machine died, the dumps by telling line, the records, the picture of the zones, and the
 -- parameters
@@ -104,7 +86,7 @@ abbrev pub page_with : List ℕ → Params → List Zone → ReportHeld → Opti
 page_with title params zones report told =
     heading_parts title ++ why_parts told ++ warnings_parts report told ++ died_parts report.records told
     ++ records_opening (length report.records) ++ causes_parts report.records ++ list_parts zones report told
-    ++ picture zones report ++ parameters_parts params ++ Words end_words ∷ []
+    ++ picture zones report ++ parameters_parts params ++ Words END.now ∷ []
 
 abbrev pub page_parts : List ℕ → Params → List Zone → ReportHeld → List Part
 page_parts title params zones report = page_with title params zones report (death_told report.records)

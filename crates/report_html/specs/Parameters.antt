@@ -1,6 +1,7 @@
 -- The parameters of a layout, in a table
 use Rattle.std.specs.Prelude.{ℕ, List, [], ◌∷◌, ◌++◌, codes}
 use Rattle.zone_spec.specs.declared.params.Params.{Params}
+use Rattle.report_html.specs.declared.words.TheConstants.{PARAMETERS}
 use Rattle.report_html.specs.Pieces.{Part, Words, Count}
 
 abbrev pub parameter_parts : (key : List ℕ) → ℕ → List Part
@@ -23,15 +24,8 @@ parity_rows p =
 abbrev pub ftrace_rows : Params → List Part
 ftrace_rows p = parameter_parts (codes "cpus") p.cpus ++ parameter_parts (codes "ftrace_sig") p.ftrace_sig
 
-abbrev pub parameters_words : List ℕ
-parameters_words =
-    codes "<h2 id=\"layout\">Parameters</h2>\n"
-    ++ codes "<p class=\"note\">As the zones were read. Sizes and parity are in bytes.</p>\n"
-    ++ codes "<div class=\"scroll\" tabindex=\"0\" role=\"region\" aria-label=\"Parameters\"><table class=\"grid\">\n"
-    ++ codes "<tr><th scope=\"col\">Parameter</th><th scope=\"col\" class=\"n\">Value</th></tr>\n"
-
 -- with a row for each
 abbrev pub parameters_parts : Params → List Part
 parameters_parts p =
-    Words parameters_words ∷ [] ++ size_rows p ++ parity_rows p ++ ftrace_rows p
+    Words PARAMETERS.now ∷ [] ++ size_rows p ++ parity_rows p ++ ftrace_rows p
     ++ Words (codes "</table></div>\n") ∷ []

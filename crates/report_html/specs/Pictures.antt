@@ -13,6 +13,7 @@ use Rattle.zone_spec.specs.declared.PartState.{PartState}
 use Rattle.zone_spec.specs.declared.PartState.TheVariants.{Read, Bad}
 use Rattle.zone_spec.specs.PartStates.{PartStates}
 use Rattle.region_report.specs.Reports.{ReportHeld}
+use Rattle.report_html.specs.declared.words.TheConstants.{CELL, STRIP, FRAME, MAP}
 use Rattle.report_html.specs.Pieces.{Part, Words, Count}
 
 -- ---- zones
@@ -90,8 +91,7 @@ place_parts whole z =
 
 abbrev pub bar_parts : Zone → Option ZoneReading → List Part
 bar_parts z r =
-    Words (codes ": ") ∷ Words (read_words r)
-    ∷ Words (codes "</title><rect class=\"zone\" width=\"100%\" height=\"52\"/><rect class=\"") ∷ Words (bar_words r)
+    Words (codes ": ") ∷ Words (read_words r) ∷ Words FRAME.now ∷ Words (bar_words r)
     ∷ Count (share (used_bytes z r) z.size) ∷ Words (codes "e-3%\"/>") ∷ []
 
 -- a zone in the map, as wide as its share of the region
@@ -195,14 +195,11 @@ unused_parts z used = if nat_lt used z.blocks then blocks_parts z used z.blocks 
 
 -- ---- the table of zones
 
-abbrev pub cell : List ℕ
-cell = codes "</td><td class=\"n\">"
-
 -- the words of a header as it reads, corrected bytes and bad parts
 abbrev pub reading_cells : ZoneReading → List Part
 reading_cells r =
-    Words cell ∷ Count r.words.start ∷ Words cell ∷ Count r.words.size ∷ Words cell ∷ Count r.corrected ∷ Words cell
-    ∷ Count r.bad ∷ []
+    Words CELL.now ∷ Count r.words.start ∷ Words CELL.now ∷ Count r.words.size ∷ Words CELL.now ∷ Count r.corrected
+    ∷ Words CELL.now ∷ Count r.bad ∷ []
 
 abbrev pub unread_cells : List Part
 unread_cells = Words (codes "</td><td colspan=\"4\">") ∷ []
@@ -215,9 +212,8 @@ read_cells (Some r) = reading_cells r
 abbrev pub row_parts : Zone → Option ZoneReading → List Part
 row_parts z r =
     Words (codes "<tr><th scope=\"row\">") ∷ [] ++ zone_name z ++ Words (codes "</th><td>") ∷ Words (read_words r)
-    ∷ Words cell ∷ Count z.at ∷ Words cell ∷ Count z.size ∷ [] ++ read_cells r
-    ++ Words (codes "</td></tr>\n<tr><td class=\"pic\" colspan=\"8\"><svg class=\"strip\" viewBox=\"0 0 ")
-    ∷ Count z.size ∷ Words (codes " 24\" preserveAspectRatio=\"none\">\n") ∷ []
+    ∷ Words CELL.now ∷ Count z.at ∷ Words CELL.now ∷ Count z.size ∷ [] ++ read_cells r
+    ++ Words STRIP.now ∷ Count z.size ∷ Words (codes " 24\" preserveAspectRatio=\"none\">\n") ∷ []
 
 -- a zone with its reading, its header and its blocks
 abbrev pub zone_parts : Saved × PartStates → List Part
@@ -244,27 +240,7 @@ width_of zones = end_of (slice_get zones (length zones - 1))
 abbrev pub region_opening : ℕ → ℕ → List Part
 region_opening whole count =
     Words (codes "<h2 id=\"region\">The region: ") ∷ Count whole ∷ Words (codes " bytes, ") ∷ Count count
-    ∷ Words (codes " zones</h2>\n<svg class=\"map\" role=\"img\" "
-    ++ codes "aria-label=\"The region to scale; the table below has its numbers\">\n") ∷ []
-
-abbrev pub key_words : List ℕ
-key_words =
-    codes "</svg>\n<ul class=\"legend\">\n"
-    ++ codes "<li><svg class=\"key\"><rect class=\"ok\" y=\"10\" width=\"16\" height=\"10\"/></svg>clean</li>\n"
-    ++ codes "<li><svg class=\"key\"><rect class=\"fix\" y=\"5\" width=\"16\" height=\"15\"/></svg>corrected</li>\n"
-    ++ codes "<li><svg class=\"key\"><rect class=\"bad\" width=\"16\" height=\"20\"/></svg>"
-    ++ codes "bad: more damage than parity repairs</li>\n"
-    ++ codes "<li><svg class=\"key\"><rect class=\"off\" y=\"16\" width=\"16\" height=\"4\"/></svg>not in use</li>\n"
-    ++ codes "</ul>\n<p class=\"note\">To scale. A zone has the colour of its worst part. "
-    ++ codes "In the table each zone has its header and blocks below it.</p>\n"
-
-abbrev pub table_words : List ℕ
-table_words =
-    codes "<div class=\"scroll\" tabindex=\"0\" role=\"region\" aria-label=\"Zones\"><table class=\"grid\">\n"
-    ++ codes "<tr><th scope=\"col\">Zone</th><th scope=\"col\">State</th><th scope=\"col\" class=\"n\">Place</th>"
-    ++ codes "<th scope=\"col\" class=\"n\">Size</th><th scope=\"col\" class=\"n\">Start</th>"
-    ++ codes "<th scope=\"col\" class=\"n\">Used</th><th scope=\"col\" class=\"n\">Corrected</th>"
-    ++ codes "<th scope=\"col\" class=\"n\">Bad</th></tr>\n"
+    ∷ Words MAP.now ∷ []
 
 abbrev pub all_drawn : Bool → List Zone → ReportHeld → List Part
 all_drawn in_table zones report =

@@ -3,13 +3,14 @@ use Rattle.std.specs.Prelude.{true, false, List, [], ◌∷◌, ◌++◌, length
 use Rattle.zone_spec.specs.declared.Zone.{Zone}
 use Rattle.region_report.specs.Reports.{ReportHeld}
 use Rattle.report_html.specs.Pieces.{Part, Words}
-use Rattle.report_html.specs.Pictures.{region_opening, width_of, all_drawn, key_words, table_words}
+use Rattle.report_html.specs.Pictures.{region_opening, width_of, all_drawn}
+use Rattle.report_html.specs.declared.words.TheConstants.{KEY, ZONES}
 use Rattle.report_html.specs.Spots.{spots_of, spots_parts}
 
 -- the zones to scale, the headers and blocks that are not clean, and a table with a row and a strip for each zone
 abbrev pub picture : List Zone → ReportHeld → List Part
 picture zones report =
     region_opening (width_of zones) (length zones) ++ all_drawn false zones report
-    ++ Words key_words ∷ [] ++ spots_parts (spots_of zones report.parts)
-    ++ Words table_words ∷ [] ++ all_drawn true zones report
+    ++ Words KEY.now ∷ [] ++ spots_parts (spots_of zones report.parts)
+    ++ Words ZONES.now ∷ [] ++ all_drawn true zones report
     ++ Words (codes "</table></div>\n") ∷ []

@@ -9,8 +9,9 @@ use Rattle.zone_spec.specs.PartStates.{PartStates}
 use Rattle.report_html.specs.declared.spots.Stretch.{Stretch}
 use Rattle.report_html.specs.declared.spots.Stretch.TheVariants.{Header, Blocks}
 use Rattle.report_html.specs.declared.spots.Spot.{Spot}
+use Rattle.report_html.specs.declared.words.TheConstants.{CELL, SPOTS, CLEAN}
 use Rattle.report_html.specs.Pieces.{Part, Words, Count}
-use Rattle.report_html.specs.Pictures.{Run, runs, zone_name, cell, block_at, numbers_parts}
+use Rattle.report_html.specs.Pictures.{Run, runs, zone_name, block_at, numbers_parts}
 
 -- ---- what is not clean
 
@@ -65,7 +66,7 @@ verdict_parts stretch Bad = Words (codes "<span class=\"bad\">bad</span>") ∷ [
 abbrev pub spot_parts : Spot → List Part
 spot_parts s =
     Words (codes "<tr><th scope=\"row\">") ∷ [] ++ zone_name s.zone ++ Words (codes "</th><td class=\"n\">") ∷ []
-    ++ stretch_parts s.stretch ++ Words cell ∷ Count (place_of s.zone s.stretch) ∷ Words cell
+    ++ stretch_parts s.stretch ++ Words CELL.now ∷ Count (place_of s.zone s.stretch) ∷ Words CELL.now
     ∷ Count (size_of s.zone s.stretch) ∷ Words (codes "</td><td>") ∷ [] ++ verdict_parts s.stretch s.state
     ++ Words (codes "</td></tr>\n") ∷ []
 
@@ -73,21 +74,13 @@ spot_parts s =
 abbrev pub open_words : ℕ → List ℕ
 open_words count = if nat_lt 32 count then [] else codes " open"
 
-abbrev pub spots_words : List ℕ
-spots_words =
-    codes "</b></summary>\n<div class=\"scroll\" tabindex=\"0\" role=\"region\" "
-    ++ codes "aria-label=\"Headers and blocks that are not clean\"><table class=\"grid\">\n"
-    ++ codes "<tr><th scope=\"col\">Zone</th><th scope=\"col\" class=\"n\">Block</th>"
-    ++ codes "<th scope=\"col\" class=\"n\">Place</th><th scope=\"col\" class=\"n\">Bytes</th>"
-    ++ codes "<th scope=\"col\">Read</th></tr>\n"
-
 abbrev pub spots_opening : ℕ → List Part
 spots_opening count =
     Words (codes "<details") ∷ Words (open_words count)
-    ∷ Words (codes "><summary><b>Headers and blocks that are not clean: ") ∷ Count count ∷ Words spots_words ∷ []
+    ∷ Words (codes "><summary><b>Headers and blocks that are not clean: ") ∷ Count count ∷ Words SPOTS.now ∷ []
 
 abbrev pub spots_parts : List Spot → List Part
-spots_parts [] = Words (codes "<p class=\"note\">All headers and blocks in use are clean.</p>\n") ∷ []
+spots_parts [] = Words CLEAN.now ∷ []
 spots_parts (spot ∷ spots) =
     spots_opening (length (spot ∷ spots)) ++ flat_map spot_parts (spot ∷ spots)
     ++ Words (codes "</table></div>\n</details>\n") ∷ []

@@ -14,23 +14,17 @@ use Rattle.report_spec.specs.Deaths.{DeathTold}
 use Rattle.prz_read.specs.Saving.{saved}
 use Rattle.region_report.specs.Counted.{zones_counted}
 use Rattle.region_report.specs.Reports.{ReportHeld}
-use Rattle.report_html.specs.Pieces.{Part, Words, Count}
-use Rattle.report_html.specs.Names.{link_parts}
-
-abbrev pub opening : List ℕ
-opening = codes "<p class=\"warn\"><b>Read with care.</b> "
-
-abbrev pub closing : List ℕ
-closing = codes "</p>\n"
+use Rattle.report_html.specs.declared.words.TheConstants.{OPENING, CLOSING, BAD_TELLER, NO_LOG, MANY_BAD}
+use Rattle.report_html.specs.Pieces.{Part, Words, Count, Link}
 
 abbrev pub warning : List ℕ → List Part
-warning said = Words opening ∷ Words said ∷ Words closing ∷ []
+warning said = Words OPENING.now ∷ Words said ∷ Words CLOSING.now ∷ []
 
 -- the console tells, and not this dump
 abbrev pub lacking : Name → List Part
 lacking dump =
-    Words opening ∷ Words (codes "The console tells it. The newest dump, ") ∷ [] ++ link_parts dump
-    ++ Words (codes ", lacks its last telling line.") ∷ Words closing ∷ []
+    Words OPENING.now ∷ Words (codes "The reason comes from the console; the newest dump, ") ∷ Link dump
+    ∷ Words (codes ", does not contain it.") ∷ Words CLOSING.now ∷ []
 
 abbrev pub console_warning : Option RecordShown → Option DeathTold → List Part
 console_warning None told = []
@@ -45,7 +39,7 @@ tells_badly zones (Some told) = nat_lt 0 (bad_in told.teller.name (zones_counted
 
 abbrev pub teller_warning : Bool → List Part
 teller_warning badly =
-    if badly then warning (codes "The record that tells it has bad parts: its lines can be wrong.") else []
+    if badly then warning BAD_TELLER.now else []
 
 abbrev pub is_bad : PartState → Bool
 is_bad (Read n) = false
@@ -57,8 +51,8 @@ has_bad_header parts = is_bad parts.header
 -- so many headers are bad
 abbrev pub bad_headers : ℕ → List Part
 bad_headers count =
-    Words opening ∷ Words (codes "Bad headers: ") ∷ Count count
-    ∷ Words (codes ". A log that is lost there can be newer than what stands below.") ∷ Words closing ∷ []
+    Words OPENING.now ∷ Words (codes "Bad headers: ") ∷ Count count
+    ∷ Words (codes ". A log that is lost there can be newer than what stands below.") ∷ Words CLOSING.now ∷ []
 
 abbrev pub headers_warning : ℕ → List Part
 headers_warning count = if nat_lt 0 count then bad_headers count else []
@@ -74,11 +68,9 @@ has_bad_part parts = is_bad parts.header || list_any is_bad parts.blocks
 abbrev pub layout_warning : (logs bad zones : ℕ) → List Part
 layout_warning logs bad zones =
     if logs == 0
-    then warning (codes "No zone has a log. "
-    ++ codes "The region is blank, or its place or the parameters are not the kernel's.")
+    then warning NO_LOG.now
     else (if nat_lt (zones / 2) bad
-    then warning (codes "More than half of the zones have bad parts. "
-    ++ codes "The place or the parameters can be other than the kernel's.") else [])
+    then warning MANY_BAD.now else [])
 
 -- the warnings of a report, in which this tells why the machine died
 abbrev pub warnings_parts : ReportHeld → Option DeathTold → List Part

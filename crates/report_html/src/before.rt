@@ -9,7 +9,6 @@ ghost use Rattle.report_html.specs.Before.{told_before as told_by_newest, teller
 ghost use Rattle.report_html.specs.Before.{time_after, line_below, before_parts};
 ghost use Rattle.report_html.specs.Escaping.{TellsBytes};
 
-use crate::names::add_link;
 use crate::pieces::{Piece, add};
 use death::{death, part};
 use death_spec::Line;
@@ -110,9 +109,11 @@ fn add_told<'a>(pieces: &mut Vec<Piece<'a>>, told: Telling<'a>) -> Result<(), Al
     let teller: &'a RecordReport = told.teller;
     add(
         pieces,
-        &[Piece::Own("<tr><th scope=\"row\">Before it</th><td>")],
+        &[
+            Piece::Own("<tr><th scope=\"row\">Before it</th><td>"),
+            Piece::Link(teller.name),
+        ],
     )?;
-    add_link(pieces, teller.name)?;
     add_time_after(pieces, teller.time)?;
     add_line_below(pieces, teller.readable(), told.death.telling)?;
     Ok(())

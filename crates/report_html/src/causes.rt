@@ -12,8 +12,8 @@ ghost use Rattle.report_html.specs.Causes.{row_parts, line_part, cause_parts, ot
 ghost use Rattle.report_html.specs.Causes.{crash_in, crashes_in};
 
 use crate::listed::dump_number;
-use crate::names::add_link;
 use crate::pieces::{Piece, add};
+use crate::words::CAUSES;
 use death::{death, part};
 use region_report::{RecordReport, is_newer};
 use std::alloc::{AllocError, Global};
@@ -28,12 +28,6 @@ pub struct Crash<'a> {
 
 /// How many telling lines have a row of their own.
 const ROWS: usize = 15;
-
-const HEAD: &str =
-    "<div class=\"scroll\" tabindex=\"0\" role=\"region\" aria-label=\"Dumps by telling line\">\
-<table class=\"grid stack\">\n<caption>Dumps by telling line</caption>\n\
-<tr><th scope=\"col\" class=\"n\">Dumps</th><th scope=\"col\">Telling line</th>\
-<th scope=\"col\">Newest of them</th><th scope=\"col\">Its time</th></tr>\n";
 
 fn telling_line(text: &[u8]) -> Option<&[u8]>
     ensures { option_copied result ≡ line_told text.now }
@@ -219,8 +213,7 @@ fn add_time_cell(pieces: &mut Vec<Piece<'_>>, time: Option<Time>) -> Result<(), 
 fn add_dump(pieces: &mut Vec<Piece<'_>>, dump: &RecordReport) -> Result<(), AllocError>
     ensures { OnOk result (parts pieces.new.items ≡ parts pieces.old.items ++ newest_cells (Some dump.now)) }
 {
-    add_link(pieces, dump.name)?;
-    add(pieces, &[Piece::Own("</td><td>")])?;
+    add(pieces, &[Piece::Link(dump.name), Piece::Own("</td><td>")])?;
     add_time_cell(pieces, dump.time)?;
     Ok(())
 }
@@ -316,7 +309,7 @@ fn add_table<'a>(
 {
     let rows = rows_of(alloc, crashes)?;
     let others = others(alloc, crashes, rows.as_slice())?;
-    add(pieces, &[Piece::Own(HEAD)])?;
+    add(pieces, &[Piece::Own(CAUSES)])?;
     add_rows(alloc, pieces, crashes, rows.as_slice())?;
     add_others(pieces, others.as_slice())?;
     add(pieces, &[Piece::Own("</table></div>\n")])?;

@@ -16,21 +16,13 @@ ghost use Rattle.report_html.specs.Escaping.{TellsBytes, AllTellBytes};
 
 use crate::before::add_before;
 use crate::listed::is_console;
-use crate::names::{add_link, add_name};
 use crate::pieces::{Piece, add};
+use crate::words::{NO_CPU, NO_FUNCTION, TOLD};
 use death::{next_line, part};
 use death_spec::{Death, Line, Span};
 use region_report::{RecordReport, Telling, console, has_telling_line};
 use std::alloc::AllocError;
 use zone_spec::{Name, Time};
-
-const NO_CPU: &str = "<tr><th scope=\"row\">CPU</th><td>none is named below this line</td></tr>\n";
-
-const NO_FUNCTION: &str =
-    "<tr><th scope=\"row\">Function</th><td>none is named below this line</td></tr>\n";
-
-const TOLD: &str =
-    "</td></tr>\n</table>\n</header>\n<main>\n<h2 id=\"told\">The lines that tell it, in ";
 
 /// The lines that are shown above the telling line.
 const ABOVE: usize = 8;
@@ -325,13 +317,15 @@ fn add_teller(
 {
     add(
         pieces,
-        &[Piece::Own("<tr><th scope=\"row\">Told by</th><td>")],
-    )?;
-    add_link(pieces, name)?;
-    add(pieces, &[Piece::Own(words), Piece::Own(TOLD)])?;
-    add_name(pieces, name)?;
-    add(pieces, &[Piece::Own("</h2>\n<pre class=\"log\">\n")])?;
-    Ok(())
+        &[
+            Piece::Own("<tr><th scope=\"row\">Told by</th><td>"),
+            Piece::Link(name),
+            Piece::Own(words),
+            Piece::Own(TOLD),
+            Piece::Named(name),
+            Piece::Own("</h2>\n<pre class=\"log\">\n"),
+        ],
+    )
 }
 
 fn add_death<'a>(

@@ -3,7 +3,7 @@
 //!
 //! A page is a list of pieces: its own text, which is `'static` and so never comes from an image, numbers, times, and
 //! foreign bytes and logs, which are written escaped.
-#![tactic(auto)]
+#![tactic(auto, using(crate::proofs::PartSums::split))]
 
 mod before;
 mod block_runs;
@@ -25,6 +25,7 @@ mod region;
 mod spots;
 mod style;
 mod warnings;
+mod words;
 
 pub use escaping::push_escaped;
 pub use laws::{

@@ -1,56 +1,30 @@
-// What names a record, and when it was written.
+// The name of a record, and a link to it.
 ghost use Rattle.std.specs.Prelude.{◌≡◌, ◌++◌, OnOk};
-ghost use Rattle.report_html.specs.Pieces.{parts};
-ghost use Rattle.report_html.specs.Names.{name_parts, link_parts, time_parts};
+ghost use Rattle.zone_spec.specs.Names.{name_text};
+ghost use Rattle.report_html.specs.Pieces.{link_text};
 
-use crate::pieces::{Piece, add};
+use arrayvec::ArrayString;
+use pstore_records::name_text;
 use std::alloc::AllocError;
-use zone_spec::{Name, Time};
+use zone_spec::Name;
 
-/// Adds what names a record.
-pub fn add_name(pieces: &mut Vec<Piece<'_>>, name: Name) -> Result<(), AllocError>
-    ensures { OnOk result (parts pieces.new.items ≡ parts pieces.old.items ++ name_parts name) }
+/// Appends the name of a record's file.
+pub fn push_name(out: &mut Vec<u8>, name: Name) -> Result<(), AllocError>
+    ensures { OnOk result (out.new.items ≡ out.old.items ++ name_text name) }
 {
-    match name {
-        Name::Dump { index, packed } => add(
-            pieces,
-            &[
-                Piece::Own("dmesg-ramoops-"),
-                Piece::Number(u64::from(index)),
-                Piece::Own(if packed { ".enc.z" } else { "" }),
-            ],
-        ),
-        Name::Console => add(pieces, &[Piece::Own("console-ramoops-0")]),
-        Name::Pmsg => add(pieces, &[Piece::Own("pmsg-ramoops-0")]),
-        Name::Ftrace => add(pieces, &[Piece::Own("ftrace-ramoops-0")]),
-    }
+    let mut text = ArrayString::new();
+    name_text(name, &mut text);
+    out.extend_from_slice(text.as_str().as_bytes())
 }
 
-/// Adds a link to a record, in its name.
-pub fn add_link(pieces: &mut Vec<Piece<'_>>, name: Name) -> Result<(), AllocError>
-    ensures { OnOk result (parts pieces.new.items ≡ parts pieces.old.items ++ link_parts name) }
+/// Appends a link to a record, in its name.
+pub fn push_link(out: &mut Vec<u8>, name: Name) -> Result<(), AllocError>
+    ensures { OnOk result (out.new.items ≡ out.old.items ++ link_text name) }
 {
-    add(pieces, &[Piece::Own("<a href=\"#")])?;
-    add_name(pieces, name)?;
-    add(pieces, &[Piece::Own("\">")])?;
-    add_name(pieces, name)?;
-    add(pieces, &[Piece::Own("</a>")])?;
+    out.extend_from_slice(b"<a href=\"#")?;
+    push_name(out, name)?;
+    out.extend_from_slice(b"\">")?;
+    push_name(out, name)?;
+    out.extend_from_slice(b"</a>")?;
     Ok(())
-}
-
-/// Adds when a record was written, if it has a time.
-pub fn add_time(pieces: &mut Vec<Piece<'_>>, time: Option<Time>) -> Result<(), AllocError>
-    ensures { OnOk result (parts pieces.new.items ≡ parts pieces.old.items ++ time_parts time) }
-{
-    match time {
-        Some(time) => add(
-            pieces,
-            &[
-                Piece::Own("<span>"),
-                Piece::Moment(time),
-                Piece::Own("</span>"),
-            ],
-        ),
-        None => Ok(()),
-    }
 }

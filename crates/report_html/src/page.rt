@@ -5,8 +5,9 @@ ghost use Rattle.region_report.specs.Tellers.{told_in};
 ghost use Rattle.zone_spec.specs.Parts.{AreBytes};
 ghost use Rattle.report_spec.specs.Packed.{readable};
 ghost use Rattle.report_html.specs.Pieces.{parts};
-ghost use Rattle.report_html.specs.Pages.{length_parts, packing_parts, content_parts, record_parts, records_after};
-ghost use Rattle.report_html.specs.Pages.{list_parts, records_opening, heading_parts, page_parts, page_of};
+ghost use Rattle.report_html.specs.Pages.{time_parts, length_parts, packing_parts, content_parts, record_parts};
+ghost use Rattle.report_html.specs.Pages.{records_after, list_parts, records_opening, heading_parts};
+ghost use Rattle.report_html.specs.Pages.{page_parts, page_of};
 ghost use Rattle.report_spec.specs.Deaths.{death_told};
 ghost use Rattle.report_html.specs.Escaping.{HoldBytes, AllTellBytes, IsWithoutMarkup};
 
@@ -14,37 +15,18 @@ use crate::causes::add_causes;
 use crate::died::{add_died, add_why};
 use crate::groups::{add_edge, are_grouped, group_in};
 use crate::listed::{add_fold, add_say, is_unfolded, unfolded};
-use crate::names::{add_name, add_time};
 use crate::parameters::add_parameters;
 use crate::picture::add_picture;
 use crate::pieces::{Piece, add, render};
 use crate::reads::add_read;
 use crate::style::STYLE;
 use crate::warnings::add_warnings;
+use crate::words::{END, HEAD, LEVELS, NAVIGATION};
 use outside::Bytes;
 use prz_read::Logs;
 use region_report::{Packing, RecordReport, Report, Telling, death_told, newest_dump};
 use std::alloc::{AllocError, Global};
-use zone_spec::{Name, Params, Zone};
-
-const HEAD: &str = "<!doctype html>\n<html lang=\"en\">\n<head>\n<meta charset=\"utf-8\">\n\
-<meta name=\"viewport\" content=\"width=device-width, initial-scale=1\">\n\
-<meta http-equiv=\"Content-Security-Policy\" content=\"default-src 'none'; style-src 'unsafe-inline'\">\n\
-<title>Crash log report</title>\n<style>\n";
-
-const NAVIGATION: &str =
-    "</h1>\n<nav aria-label=\"Parts of this page\"><a href=\"#records\">Records</a> \
-<a href=\"#region\">Region</a> <a href=\"#layout\">Parameters</a></nav>\n";
-
-const LEVELS: &str = "</h2>\n<p class=\"note\">\
-The number before a line is its level: 0 emergency, 1 alert, 2 critical, 3 error, 4 warning, \
-5 notice, 6 info, 7 debug. One of 8 or more is of user space; its level is the number modulo 8. \
-The console keeps no levels.</p>\n";
-
-const END: &str =
-    "</main>\n<footer>\n<p>Times are UTC. Text of the region is printable ASCII, tabs and newlines; \
-every other byte, and the backslash, is shown as <span class=\"mono\">\\x</span> and two hexadecimal digits.</p>\n\
-</footer>\n</body>\n</html>\n";
+use zone_spec::{Name, Params, Time, Zone};
 
 fn add_length(pieces: &mut Vec<Piece<'_>>, bytes: u64) -> Result<(), AllocError>
     ensures { OnOk result (parts pieces.new.items ≡ parts pieces.old.items ++ length_parts bytes) }
@@ -83,6 +65,23 @@ fn add_packing(pieces: &mut Vec<Piece<'_>>, packing: &Packing<Bytes>) -> Result<
     }
 }
 
+/// Adds when a record was written, if it has a time.
+fn add_time(pieces: &mut Vec<Piece<'_>>, time: Option<Time>) -> Result<(), AllocError>
+    ensures { OnOk result (parts pieces.new.items ≡ parts pieces.old.items ++ time_parts time) }
+{
+    match time {
+        Some(time) => add(
+            pieces,
+            &[
+                Piece::Own("<span>"),
+                Piece::Moment(time),
+                Piece::Own("</span>"),
+            ],
+        ),
+        None => Ok(()),
+    }
+}
+
 /// Adds the lines of a record, with its name as their anchor.
 fn add_content<'a>(
     pieces: &mut Vec<Piece<'a>>,
@@ -95,18 +94,14 @@ fn add_content<'a>(
 {
     add(
         pieces,
-        &[Piece::Own("</summary>\n<pre class=\"log\" id=\"")],
-    )?;
-    add_name(pieces, name)?;
-    add(
-        pieces,
         &[
+            Piece::Own("</summary>\n<pre class=\"log\" id=\""),
+            Piece::Named(name),
             Piece::Own("\">\n"),
             Piece::Log(content),
             Piece::Own("</pre>\n</details>\n"),
         ],
-    )?;
-    Ok(())
+    )
 }
 
 /// Adds a record, folded or not.
@@ -123,8 +118,7 @@ fn add_record<'a>(
     let text = held.readable();
     add_say(pieces, held.name, text)?;
     add_fold(pieces, is_open)?;
-    add_name(pieces, held.name)?;
-    add(pieces, &[Piece::Own("</b>")])?;
+    add(pieces, &[Piece::Named(held.name), Piece::Own("</b>")])?;
     add_time(pieces, held.time)?;
     add_length(pieces, held.content.len() as u64)?;
     add_packing(pieces, &held.packing)?;

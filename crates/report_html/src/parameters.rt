@@ -4,13 +4,9 @@ ghost use Rattle.report_html.specs.Pieces.{parts};
 ghost use Rattle.report_html.specs.Parameters.{parameter_parts, size_rows, parity_rows, ftrace_rows, parameters_parts};
 
 use crate::pieces::{Piece, add};
+use crate::words::PARAMETERS;
 use std::alloc::AllocError;
 use zone_spec::Params;
-
-const HEAD: &str = "<h2 id=\"layout\">Parameters</h2>\n\
-<p class=\"note\">As the zones were read. Sizes and parity are in bytes.</p>\n\
-<div class=\"scroll\" tabindex=\"0\" role=\"region\" aria-label=\"Parameters\"><table class=\"grid\">\n\
-<tr><th scope=\"col\">Parameter</th><th scope=\"col\" class=\"n\">Value</th></tr>\n";
 
 fn add_parameter(
     pieces: &mut Vec<Piece<'_>>,
@@ -66,7 +62,7 @@ fn add_ftrace(pieces: &mut Vec<Piece<'_>>, params: &Params) -> Result<(), AllocE
 pub fn add_parameters(pieces: &mut Vec<Piece<'_>>, params: &Params) -> Result<(), AllocError>
     ensures { OnOk result (parts pieces.new.items ≡ parts pieces.old.items ++ parameters_parts params.now) }
 {
-    add(pieces, &[Piece::Own(HEAD)])?;
+    add(pieces, &[Piece::Own(PARAMETERS)])?;
     add_sizes(pieces, params)?;
     add_parity(pieces, params)?;
     add_ftrace(pieces, params)?;

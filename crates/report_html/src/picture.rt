@@ -13,34 +13,11 @@ use crate::block_runs::{add_numbers, block_at, run_end};
 use crate::pieces::{Piece, add};
 use crate::region::{add_map_zone, add_zone_name, read_text};
 use crate::spots::{add_spots, spots_of};
+use crate::words::{CELL, KEY, MAP, STRIP, ZONES};
 use prz_read::Reading;
 use region_report::{PartState, Report, ZoneParts};
 use std::alloc::{AllocError, Global};
 use zone_spec::Zone;
-
-const KEY: &str = "</svg>\n<ul class=\"legend\">\n\
-<li><svg class=\"key\"><rect class=\"ok\" y=\"10\" width=\"16\" height=\"10\"/></svg>clean</li>\n\
-<li><svg class=\"key\"><rect class=\"fix\" y=\"5\" width=\"16\" height=\"15\"/></svg>corrected</li>\n\
-<li><svg class=\"key\"><rect class=\"bad\" width=\"16\" height=\"20\"/></svg>\
-bad: more damage than parity repairs</li>\n\
-<li><svg class=\"key\"><rect class=\"off\" y=\"16\" width=\"16\" height=\"4\"/></svg>not in use</li>\n\
-</ul>\n<p class=\"note\">To scale. A zone has the colour of its worst part. \
-In the table each zone has its header and blocks below it.</p>\n";
-
-const TABLE: &str = "<div class=\"scroll\" tabindex=\"0\" role=\"region\" aria-label=\"Zones\">\
-<table class=\"grid\">\n\
-<tr><th scope=\"col\">Zone</th><th scope=\"col\">State</th><th scope=\"col\" class=\"n\">Place</th>\
-<th scope=\"col\" class=\"n\">Size</th><th scope=\"col\" class=\"n\">Start</th>\
-<th scope=\"col\" class=\"n\">Used</th><th scope=\"col\" class=\"n\">Corrected</th>\
-<th scope=\"col\" class=\"n\">Bad</th></tr>\n";
-
-const CELL: &str = "</td><td class=\"n\">";
-
-const STRIP: &str =
-    "</td></tr>\n<tr><td class=\"pic\" colspan=\"8\"><svg class=\"strip\" viewBox=\"0 0 ";
-
-const MAP: &str = " zones</h2>\n<svg class=\"map\" role=\"img\" \
-aria-label=\"The region to scale; the table below has its numbers\">\n";
 
 /// The class of parts by how they read, and their rows.
 fn class_text(state: Option<PartState>) -> &'static str
@@ -397,7 +374,7 @@ pub fn add_picture(
     let states = report.parts();
     let spots = spots_of(alloc, zones, states)?;
     add_spots(pieces, spots.as_slice())?;
-    add(pieces, &[Piece::Own(TABLE)])?;
+    add(pieces, &[Piece::Own(ZONES)])?;
     add_zones(pieces, true, zones, report)?;
     add(pieces, &[Piece::Own("</table></div>\n")])?;
     Ok(())

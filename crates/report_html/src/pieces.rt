@@ -5,9 +5,10 @@ ghost use Rattle.report_html.specs.Pieces.{piece_text, parts, parts_text};
 use crate::escaping::push_escaped;
 use crate::logs::push_log;
 use crate::moments::push_moment;
+use crate::names::{push_link, push_name};
 use itoa::Buffer;
 use std::alloc::{AllocError, Global};
-use zone_spec::Time;
+use zone_spec::{Name, Time};
 
 /// A piece of a page. The page's own text lives as long as the program: it cannot be made of an image's bytes.
 #[derive(Clone, Copy)]
@@ -19,6 +20,10 @@ pub enum Piece<'a> {
     Moment(Time),
     /// A log, line by line.
     Log(&'a [u8]),
+    /// The name of a record's file, which is also its anchor.
+    Named(Name),
+    /// A link to a record, in its name.
+    Link(Name),
 }
 
 fn push_piece(out: &mut Vec<u8>, piece: Piece<'_>) -> Result<(), AllocError>
@@ -33,6 +38,8 @@ fn push_piece(out: &mut Vec<u8>, piece: Piece<'_>) -> Result<(), AllocError>
         Piece::Foreign(bytes) => push_escaped(out, bytes),
         Piece::Moment(time) => push_moment(out, time),
         Piece::Log(text) => push_log(out, text),
+        Piece::Named(name) => push_name(out, name),
+        Piece::Link(name) => push_link(out, name),
     }
 }
 

@@ -9,11 +9,10 @@ ghost use Rattle.report_html.specs.Pictures.{label_opening as opening_of_label, 
 ghost use Rattle.report_html.specs.Pictures.{place_parts, bar_parts, map_parts};
 
 use crate::pieces::{Piece, add};
+use crate::words::FRAME;
 use prz_read::Reading;
 use std::alloc::AllocError;
 use zone_spec::{Kind, State, Zone};
-
-const FRAME: &str = "</title><rect class=\"zone\" width=\"100%\" height=\"52\"/><rect class=\"";
 
 fn kind_text(kind: Kind) -> &'static str
     ensures { result.now ≡ kind_words kind }

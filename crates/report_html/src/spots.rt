@@ -9,6 +9,7 @@ ghost use Rattle.report_html.specs.Spots.{spots_parts};
 use crate::block_runs::{add_numbers, block_at, run_end};
 use crate::pieces::{Piece, add};
 use crate::region::add_zone_name;
+use crate::words::{CELL, CLEAN, SPOTS};
 use region_report::{PartState, ZoneParts};
 use std::alloc::{AllocError, Global};
 use zone_spec::Zone;
@@ -27,16 +28,6 @@ pub struct Spot {
     pub stretch: Stretch,
     pub state: PartState,
 }
-
-const HEAD: &str = "</b></summary>\n<div class=\"scroll\" tabindex=\"0\" role=\"region\" \
-aria-label=\"Headers and blocks that are not clean\"><table class=\"grid\">\n\
-<tr><th scope=\"col\">Zone</th><th scope=\"col\" class=\"n\">Block</th>\
-<th scope=\"col\" class=\"n\">Place</th><th scope=\"col\" class=\"n\">Bytes</th>\
-<th scope=\"col\">Read</th></tr>\n";
-
-const CLEAN: &str = "<p class=\"note\">All headers and blocks in use are clean.</p>\n";
-
-const CELL: &str = "</td><td class=\"n\">";
 
 fn is_clean(state: PartState) -> bool
     ensures { result ≡ is_clean state }
@@ -208,7 +199,7 @@ fn add_spots_opening(pieces: &mut Vec<Piece<'_>>, count: u64) -> Result<(), Allo
             Piece::Own(open_text(count)),
             Piece::Own("><summary><b>Headers and blocks that are not clean: "),
             Piece::Number(count),
-            Piece::Own(HEAD),
+            Piece::Own(SPOTS),
         ],
     )
 }

@@ -11,24 +11,12 @@ ghost use Rattle.report_html.specs.Warnings.{bad_headers as bad_headers_parts, h
 ghost use Rattle.report_html.specs.Warnings.{layout_warning, warnings_parts};
 
 use crate::listed::is_console;
-use crate::names::add_link;
 use crate::pieces::{Piece, add};
+use crate::words::{BAD_TELLER, CLOSING, MANY_BAD, NO_LOG, OPENING};
 use prz_read::Logs;
 use region_report::{PartState, RecordReport, Report, Telling, ZoneParts, counts, newest_dump};
 use std::alloc::AllocError;
 use zone_spec::Name;
-
-const OPENING: &str = "<p class=\"warn\"><b>Read with care.</b> ";
-
-const CLOSING: &str = "</p>\n";
-
-const BAD_TELLER: &str = "The record that tells it has bad parts: its lines can be wrong.";
-
-const NO_LOG: &str =
-    "No zone has a log. The region is blank, or its place or the parameters are not the kernel's.";
-
-const MANY_BAD: &str = "More than half of the zones have bad parts. \
-The place or the parameters can be other than the kernel's.";
 
 fn add_warning(pieces: &mut Vec<Piece<'_>>, said: &'static str) -> Result<(), AllocError>
     ensures { OnOk result (parts pieces.new.items
@@ -49,18 +37,12 @@ fn add_lacking(pieces: &mut Vec<Piece<'_>>, dump: Name) -> Result<(), AllocError
         pieces,
         &[
             Piece::Own(OPENING),
-            Piece::Own("The console tells it. The newest dump, "),
-        ],
-    )?;
-    add_link(pieces, dump)?;
-    add(
-        pieces,
-        &[
-            Piece::Own(", lacks its last telling line."),
+            Piece::Own("The reason comes from the console; the newest dump, "),
+            Piece::Link(dump),
+            Piece::Own(", does not contain it."),
             Piece::Own(CLOSING),
         ],
-    )?;
-    Ok(())
+    )
 }
 
 fn add_console_warning(

@@ -202,8 +202,8 @@ Panic#1 Part1
 fn why_it_died_by_the_console(rt: HostRuntime) -> Result<(), Fail> {
     let died = "<tr><th scope=\"row\">When</th><td>no date</td></tr>
 <tr><th scope=\"row\">Seconds after boot</th><td>    3.034971</td></tr>
-<tr><th scope=\"row\">CPU</th><td>none is named below this line</td></tr>
-<tr><th scope=\"row\">Function</th><td>none is named below this line</td></tr>
+<tr><th scope=\"row\">CPU</th><td>not recorded</td></tr>
+<tr><th scope=\"row\">Function</th><td>not recorded</td></tr>
 <tr><th scope=\"row\">Told by</th><td><a href=\"#console-ramoops-0\">console-ramoops-0</a></td></tr>\n";
     assert!(rt; shows(rt, [NONE, NONE, NONE, CONSOLE], died)?);
     let lines = "<pre class=\"log\">
@@ -504,8 +504,8 @@ const CARE: &str = "<p class=\"warn\"><b>Read with care.</b> ";
 #[test]
 fn the_console_tells_and_not_the_dump(rt: HostRuntime) -> Result<(), Fail> {
     let lacks = "</pre>
-<p class=\"warn\"><b>Read with care.</b> The console tells it. The newest dump, \
-<a href=\"#dmesg-ramoops-0\">dmesg-ramoops-0</a>, lacks its last telling line.</p>\n<table class=\"fact\">\n";
+<p class=\"warn\"><b>Read with care.</b> The reason comes from the console; the newest dump, \
+<a href=\"#dmesg-ramoops-0\">dmesg-ramoops-0</a>, does not contain it.</p>\n<table class=\"fact\">\n";
     assert!(rt; shows(rt, [OOPS, NONE, NONE, CONSOLE], lacks)?);
     assert!(rt; shows(rt, [SILENT, NONE, NONE, CONSOLE], lacks)?);
     assert!(rt; !shows(rt, [PANIC, NONE, NONE, CONSOLE], CARE)?);

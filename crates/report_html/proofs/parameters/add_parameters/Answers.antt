@@ -1,29 +1,14 @@
--- The head, and all rows
-use Rattle.std.proofs.Common.{◌≡◌, ◌++◌, ◌∷◌, [], List, codes}
-use Rattle.report_html.specs.Pieces.{Part, Words, parts}
-use Rattle.report_html.specs.Parameters.{parameters_words, size_rows, parity_rows, ftrace_rows}
-use Rattle.report_html.proofs.PartSums.{joined}
+-- The head, the rows, and the end of the table
+use Rattle.std.proofs.Common.{append_assoc}
 use Rattle.report_html.proofs.parameters.add_parameters.Goals as goal
 
 pub returns : goal.returns
 returns c =
-    let old = parts c.args.pieces.now.items in
-    let p1 = parts c.add.new.pieces.items in
-    let a1 : List Part = Words parameters_words ∷ [] in
-    let e1 : p1 ≡ old ++ a1 = c.in_ok-add.ensures in
-    let p2 = parts c.add_sizes.new.pieces.items in
-    let a2 : List Part = size_rows c.args.params.now in
-    let e2 : p2 ≡ p1 ++ a2 = c.in_ok-add_sizes.ensures in
-    let t2 = joined old a1 a2 p1 p2 e1 e2 in
-    let p3 = parts c.add_parity.new.pieces.items in
-    let a3 : List Part = parity_rows c.args.params.now in
-    let e3 : p3 ≡ p2 ++ a3 = c.in_ok-add_parity.ensures in
-    let t3 = joined old (a1 ++ a2) a3 p2 p3 t2 e3 in
-    let p4 = parts c.add_ftrace.new.pieces.items in
-    let a4 : List Part = ftrace_rows c.args.params.now in
-    let e4 : p4 ≡ p3 ++ a4 = c.in_ok-add_ftrace.ensures in
-    let t4 = joined old (a1 ++ a2 ++ a3) a4 p3 p4 t3 e4 in
-    let p5 = parts c.add-2.new.pieces.items in
-    let a5 : List Part = Words (codes "</table></div>\n") ∷ [] in
-    let e5 : p5 ≡ p4 ++ a5 = c.in_ok-add-2.ensures in
-    joined old (a1 ++ a2 ++ a3 ++ a4) a5 p4 p5 t4 e5
+    simp (
+      c.in_ok-add-2.ensures,
+      c.in_ok-add_ftrace.ensures,
+      c.in_ok-add_parity.ensures,
+      c.in_ok-add_sizes.ensures,
+      c.in_ok-add.ensures,
+      append_assoc,
+    )

@@ -2,15 +2,16 @@
 use Rattle.std.proofs.Common.{◌∙◌, ◌++◌, ◌∷◌, [], ℕ, List, ap, ap₂}
 use Rattle.zone_spec.specs.Reading.{ZoneReading}
 use Rattle.report_html.specs.Pieces.{Part, Words, Count, parts}
-use Rattle.report_html.specs.Pictures.{cell, reading_cells}
+use Rattle.report_html.specs.declared.words.TheConstants.{CELL}
+use Rattle.report_html.specs.Pictures.{reading_cells}
 use Rattle.report_html.proofs.picture.add_reading.Goals as goal
 
 pub returns : goal.returns
 returns c =
     let old = parts c.args.pieces.now.items in
     let r = c.reading.inside in
-    let cells : ℕ → ℕ → ℕ → ℕ → List Part = λ s n k b. Words cell ∷ Count s ∷ Words cell ∷ Count n ∷ Words cell
-    ∷ Count k ∷ Words cell ∷ Count b ∷ [] in
+    let cells : ℕ → ℕ → ℕ → ℕ → List Part = λ s n k b. Words CELL.now ∷ Count s ∷ Words CELL.now ∷ Count n
+    ∷ Words CELL.now ∷ Count k ∷ Words CELL.now ∷ Count b ∷ [] in
     c.in_ok-add.ensures
     ∙ ap₂ (λ (s n : ℕ). old ++ cells s n c.from-corrected.result c.from-bad.result) c.from-start.ensures
     c.from-size.ensures

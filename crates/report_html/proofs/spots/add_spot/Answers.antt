@@ -2,7 +2,8 @@
 use Rattle.std.proofs.Common.{◌≡◌, ◌∙◌, ◌++◌, ◌∷◌, [], ℕ, List, ap₂, codes}
 use Rattle.report_html.specs.Pieces.{Part, Words, Count, parts}
 use Rattle.report_html.specs.declared.spots.Spot.{Spot}
-use Rattle.report_html.specs.Pictures.{zone_name, cell}
+use Rattle.report_html.specs.Pictures.{zone_name}
+use Rattle.report_html.specs.declared.words.TheConstants.{CELL}
 use Rattle.report_html.specs.Spots.{stretch_parts, place_of, size_of, verdict_parts}
 use Rattle.report_html.proofs.PartSums.{joined}
 use Rattle.report_html.proofs.spots.add_spot.Goals as goal
@@ -11,7 +12,7 @@ pub returns : goal.returns
 returns c =
     let old = parts c.args.pieces.now.items in
     let s : Spot = c.args.spot.now in
-    let cells : ℕ → ℕ → List Part = λ m n. Words cell ∷ Count m ∷ Words cell ∷ Count n ∷ Words (codes "</td><td>") ∷ [] in
+    let cells : ℕ → ℕ → List Part = λ m n. Words CELL.now ∷ Count m ∷ Words CELL.now ∷ Count n ∷ Words (codes "</td><td>") ∷ [] in
     let p1 = parts c.add.new.pieces.items in
     let a1 : List Part = Words (codes "<tr><th scope=\"row\">") ∷ [] in
     let p2 = parts c.add_zone_name.new.pieces.items in

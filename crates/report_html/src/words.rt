@@ -1,0 +1,98 @@
+// The page's own words, which its definition cites.
+
+/// The head, before the style sheet: no script, and nothing from elsewhere.
+pub const HEAD: &str = "<!doctype html>\n<html lang=\"en\">\n<head>\n<meta charset=\"utf-8\">\n\
+<meta name=\"viewport\" content=\"width=device-width, initial-scale=1\">\n\
+<meta http-equiv=\"Content-Security-Policy\" content=\"default-src 'none'; style-src 'unsafe-inline'\">\n\
+<title>Crash log report</title>\n<style>\n";
+
+/// After the title.
+pub const NAVIGATION: &str =
+    "</h1>\n<nav aria-label=\"Parts of this page\"><a href=\"#records\">Records</a> \
+<a href=\"#region\">Region</a> <a href=\"#layout\">Parameters</a></nav>\n";
+
+/// After the number of records.
+pub const LEVELS: &str = "</h2>\n<p class=\"note\">\
+The number before a line is its level: 0 emergency, 1 alert, 2 critical, 3 error, 4 warning, \
+5 notice, 6 info, 7 debug. A number of 8 or more comes from user space; its level is that number modulo 8. \
+The console keeps no levels.</p>\n";
+
+pub const END: &str =
+    "</main>\n<footer>\n<p>Times are UTC. Text of the region is printable ASCII, tabs and newlines; \
+every other byte, and the backslash, is shown as <span class=\"mono\">\\x</span> and two hexadecimal digits.</p>\n\
+</footer>\n</body>\n</html>\n";
+
+pub const NO_CPU: &str = "<tr><th scope=\"row\">CPU</th><td>not recorded</td></tr>\n";
+
+pub const NO_FUNCTION: &str = "<tr><th scope=\"row\">Function</th><td>not recorded</td></tr>\n";
+
+/// Between the table of what is known and the lines that tell it.
+pub const TOLD: &str =
+    "</td></tr>\n</table>\n</header>\n<main>\n<h2 id=\"told\">The lines that tell it, in ";
+
+/// The head of the table of dumps.
+pub const CAUSES: &str =
+    "<div class=\"scroll\" tabindex=\"0\" role=\"region\" aria-label=\"Dumps by telling line\">\
+<table class=\"grid stack\">\n<caption>Dumps by telling line</caption>\n\
+<tr><th scope=\"col\" class=\"n\">Dumps</th><th scope=\"col\">Telling line</th>\
+<th scope=\"col\">Newest of them</th><th scope=\"col\">Its time</th></tr>\n";
+
+/// The head of the table of parameters.
+pub const PARAMETERS: &str = "<h2 id=\"layout\">Parameters</h2>\n\
+<p class=\"note\">As the zones were read. Sizes and parity are in bytes.</p>\n\
+<div class=\"scroll\" tabindex=\"0\" role=\"region\" aria-label=\"Parameters\"><table class=\"grid\">\n\
+<tr><th scope=\"col\">Parameter</th><th scope=\"col\" class=\"n\">Value</th></tr>\n";
+
+/// The head of the map.
+pub const MAP: &str = " zones</h2>\n<svg class=\"map\" role=\"img\" \
+aria-label=\"The region to scale; the table below has its numbers\">\n";
+
+/// The key of the map.
+pub const KEY: &str = "</svg>\n<ul class=\"legend\">\n\
+<li><svg class=\"key\"><rect class=\"ok\" y=\"10\" width=\"16\" height=\"10\"/></svg>clean</li>\n\
+<li><svg class=\"key\"><rect class=\"fix\" y=\"5\" width=\"16\" height=\"15\"/></svg>corrected</li>\n\
+<li><svg class=\"key\"><rect class=\"bad\" width=\"16\" height=\"20\"/></svg>\
+bad: more damage than parity repairs</li>\n\
+<li><svg class=\"key\"><rect class=\"off\" y=\"16\" width=\"16\" height=\"4\"/></svg>not in use</li>\n\
+</ul>\n<p class=\"note\">To scale. A zone has the colour of its worst part. \
+In the table each zone has its header and blocks below it.</p>\n";
+
+/// The head of the table of zones.
+pub const ZONES: &str = "<div class=\"scroll\" tabindex=\"0\" role=\"region\" aria-label=\"Zones\">\
+<table class=\"grid\">\n\
+<tr><th scope=\"col\">Zone</th><th scope=\"col\">State</th><th scope=\"col\" class=\"n\">Place</th>\
+<th scope=\"col\" class=\"n\">Size</th><th scope=\"col\" class=\"n\">Start</th>\
+<th scope=\"col\" class=\"n\">Used</th><th scope=\"col\" class=\"n\">Corrected</th>\
+<th scope=\"col\" class=\"n\">Bad</th></tr>\n";
+
+/// Between two cells of a row, of which the second is a number.
+pub const CELL: &str = "</td><td class=\"n\">";
+
+/// Between the row of a zone and its strip.
+pub const STRIP: &str =
+    "</td></tr>\n<tr><td class=\"pic\" colspan=\"8\"><svg class=\"strip\" viewBox=\"0 0 ";
+
+/// The frame of a zone, and its bar.
+pub const FRAME: &str = "</title><rect class=\"zone\" width=\"100%\" height=\"52\"/><rect class=\"";
+
+/// The head of the table of headers and blocks that are not clean.
+pub const SPOTS: &str = "</b></summary>\n<div class=\"scroll\" tabindex=\"0\" role=\"region\" \
+aria-label=\"Headers and blocks that are not clean\"><table class=\"grid\">\n\
+<tr><th scope=\"col\">Zone</th><th scope=\"col\" class=\"n\">Block</th>\
+<th scope=\"col\" class=\"n\">Place</th><th scope=\"col\" class=\"n\">Bytes</th>\
+<th scope=\"col\">Read</th></tr>\n";
+
+pub const CLEAN: &str = "<p class=\"note\">All headers and blocks in use are clean.</p>\n";
+
+/// Before what is warned of.
+pub const OPENING: &str = "<p class=\"warn\"><b>Read with care.</b> ";
+
+pub const CLOSING: &str = "</p>\n";
+
+pub const BAD_TELLER: &str = "The record that tells it has bad parts: its lines can be wrong.";
+
+pub const NO_LOG: &str =
+    "No zone has a log. The region is blank, or its place or the parameters are not the kernel's.";
+
+pub const MANY_BAD: &str = "More than half of the zones have bad parts. \
+The place or the parameters can be other than the kernel's.";
