@@ -16,7 +16,7 @@ use std::alloc::Global;
 const SCRIPT_LIMIT: usize = 4_194_304;
 
 /// Reads a script to its end.
-#[tactic(auto, using(crate::proofs::Consumed::consumed))]
+#[tactic(auto, using(crate::proofs::SourceParts::consumed))]
 pub fn read_script<S: Source>(alloc: Global, script: &mut S) -> Result<Vec<u8>, Stop>
     ensures ok { IfOk result (λ v. (vec_len v ≤ script_limit) × IfSome (S.left script.old) (λ bs. v.items ≡ bs)) }
     ensures end { OnOk result (IsAtEnd (S.left script.new)) }

@@ -177,7 +177,7 @@ fn read_command(words: &[String]) -> Option<Asked<'_>>
 }
 
 // A command on an image of these parameters, which stand after so many words.
-#[tactic(auto, using(crate::proofs::Unshared::shares_none))]
+#[tactic(auto, using(crate::proofs::SharedZoneWord::shares_none))]
 fn lay_image<'a>(
     alloc: Global,
     command: RamCommand<'a>,

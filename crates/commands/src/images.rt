@@ -19,7 +19,7 @@ use ramoops_layout::types::Layout;
 use std::alloc::{AllocError, Global};
 
 /// Puts a layout.
-#[tactic(auto, using(crate::proofs::Shown::put_all, crate::proofs::Shown::put_none, crate::proofs::Shown::put_front))]
+#[tactic(auto, using(crate::proofs::PutTexts::put_all, crate::proofs::PutTexts::put_none, crate::proofs::PutTexts::put_front))]
 pub fn show_layout<O: Sink>(alloc: Global, layout: &Layout, out: &mut O) -> Result<(), Stop>
     ensures later { O.faults out.old ≤ O.faults out.new }
     ensures out_count { KeptUnless Stop.SinkFault result (O.faults out.old) (O.faults out.new) }
@@ -41,7 +41,7 @@ pub fn show_layout<O: Sink>(alloc: Global, layout: &Layout, out: &mut O) -> Resu
 }
 
 /// Writes a blank image of so many bytes.
-#[tactic(auto, using(crate::proofs::Shown::wrote_all, crate::proofs::Shown::wrote_front))]
+#[tactic(auto, using(crate::proofs::PutTexts::wrote_all, crate::proofs::PutTexts::wrote_front))]
 pub fn blank<M: Store>(image: &mut M, mem: u32) -> Result<(), Stop>
     ensures later { M.faults image.old ≤ M.faults image.new }
     ensures caused { (f f' h h' : ℕ) → CausedAt f f' (M.faults image.old) (M.faults image.new) h h' result }
