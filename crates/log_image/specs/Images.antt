@@ -1,17 +1,17 @@
 -- A text log as the image of a region, so that it is reported as a region is
-use Rattle.std.specs.Prelude.{◌≡◌, ℕ, ◌-◌, List, length, slice_get, slice_range, Option, Some, None}
+use Rattle.std.specs.Prelude.{◌≡◌, ℕ, ◌-◌, List, length, slice_get, drop, Option, Some, None}
 use Rattle.text_log_spec.specs.declared.Boot.{Boot}
 use Rattle.text_log_spec.specs.Boots.{boots_of}
 use Rattle.log_region.specs.Regions.{kept, size_for, params_of, region_of}
 use Rattle.report_tool.specs.Plans.{IsLaid}
 use Rattle.log_image.specs.declared.LogImage.{LogImage}
 
--- the part of a text that a boot wrote; all of it, where there is none
+-- a text from where a boot begins; all of it, where there is none
 abbrev pub part_of : List ℕ → Option Boot → List ℕ
 part_of text None = text
-part_of text (Some b) = slice_range text b.start b.end
+part_of text (Some b) = drop b.start text
 
--- that of its last boot
+-- what the last boot wrote
 abbrev pub last_part : List ℕ → List ℕ
 last_part text = part_of text (slice_get (boots_of text) (length (boots_of text) - 1))
 

@@ -3,7 +3,6 @@
 #![tactic(auto)]
 
 ghost use Rattle.std.specs.Prelude.{◌≡◌, ◌-◌, ◌≤◌, length, slice_get, IfOk};
-ghost use Rattle.text_log_spec.specs.Boots.{Joined};
 ghost use Rattle.log_region.specs.Regions.{most_kept, size_for, params_of};
 ghost use Rattle.report_tool.specs.Plans.{IsLaid};
 ghost use Rattle.log_image.specs.Images.{part_of, IsLogImage};
@@ -22,13 +21,12 @@ pub struct LogImage {
     pub boots: usize,
 }
 
-// The part of the last boot.
+// A text from its last boot on.
 fn last_part<'a>(text: &'a [u8], boots: &[Boot]) -> &'a [u8]
-    requires { Joined 0 boots.now (length text.entry.now) }
     ensures { result.now ≡ part_of text.entry.now (slice_get boots.now (length boots.now - 1)) }
 {
     match boots.last() {
-        Some(boot) => &text[boot.start..boot.end],
+        Some(boot) => &text[boot.start.min(text.len())..],
         None => text,
     }
 }

@@ -1,5 +1,5 @@
 -- An image that is a text log: the report of the region that holds its last boot
-use Rattle.std.specs.Prelude.{◌≡◌, ◌⊎◌, ◌≤◌, ⊤, ⊥, ¬, ℕ, Bool, true, List, take, Option, Some, None, IfSome}
+use Rattle.std.specs.Prelude.{◌≡◌, ◌⊎◌, ◌≤◌, ⊤, ℕ, Bool, true, List, take, Option, Some, None, IfSome}
 use Rattle.outside.specs.Outside.{Rose}
 use Rattle.text_log_spec.specs.Boots.{IsTextLog}
 use Rattle.log_image.specs.declared.LogImage.{LogImage}

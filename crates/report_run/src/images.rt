@@ -109,9 +109,10 @@ fn unknown_report<M: Load, O: Sink, E: Sink>(
         (seen (E.given messages.new.errors) (E.faults messages.new.errors) messages.new.is_lost)) }
     ensures same { M.holds image.new ≡ M.holds image.old }
 {
-    match held_log(alloc, asked.logs, image)? {
-        Some(log) => report_log(alloc, asked, log, path, out),
-        None => sought_report(alloc, asked, known, path, image, out, messages),
+    match held_log(alloc, asked.logs, image) {
+        Ok(Some(log)) => report_log(alloc, asked, log, path, out),
+        Ok(None) => sought_report(alloc, asked, known, path, image, out, messages),
+        Err(why) => Err(why),
     }
 }
 
