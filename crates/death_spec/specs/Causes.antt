@@ -5,8 +5,7 @@ use Rattle.std.specs.List.{starts_with}
 use Rattle.std.specs.Option.{option_or}
 use Rattle.death_spec.specs.declared.Line.{Line}
 use Rattle.death_spec.specs.declared.Mark.{Mark}
-use Rattle.death_spec.specs.declared.Mark.TheVariants.{Processor, SoftLockup, HardLockup, HungTask, Stall}
-use Rattle.death_spec.specs.declared.Mark.TheVariants.{StackOverflow}
+use Rattle.death_spec.specs.declared.Mark.TheVariants.{Processor, SoftLockup, HardLockup, HungTask, Stall, StackOverflow}
 use Rattle.death_spec.specs.declared.Mark.TheVariants.{SystemError}
 use Rattle.death_spec.specs.declared.Cause.{Cause}
 use Rattle.death_spec.specs.declared.Cause.TheVariants.{LastOops, OopsOfInit, LastSoftLockup, LastHardLockup}
