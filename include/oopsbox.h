@@ -131,7 +131,7 @@ struct oopsbox_params {
 	uint64_t ecc_ftrace;
 	uint64_t ecc_pmsg;
 	uint32_t ftrace_sig;  /* the tag in the signature of ftrace zones */
-	uint32_t unused;      /* not read */
+	uint32_t order;       /* 0: ftrace zones before pmsg, as Linux 6.1; 1: pmsg before them, as Linux 6.12 */
 };
 
 /* An initializer: the module's first six parameters in their order, the parity in bytes and for each kind of zone; one

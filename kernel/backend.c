@@ -22,7 +22,7 @@
 
 #define MOST_DUMPS 256
 #define MOST_FTRACE 64
-/* From here on the kernel has pmsg before the ftrace zones. */
+/* From here on the kernel has pmsg before the ftrace zones. 6.1 has not, and 6.12 has. */
 #define PMSG_FIRST (LINUX_VERSION_CODE >= KERNEL_VERSION(6, 2, 0))
 
 static struct region region;
@@ -312,24 +312,16 @@ static int find_kind(const struct oopsbox_params *params, u32 kind, unsigned int
 	return answer < 0 ? answer : found;
 }
 
-/* Where each zone begins. The layout's order is 6.1's: ftrace before pmsg. */
 static void place_zones(void)
 {
 	unsigned int i;
-	u32 at;
 
 	for (i = 0; i < count; i++) {
-		at = zones[i].place.at;
-		if (PMSG_FIRST && ftraces && pmsg && &zones[i] == pmsg)
-			at = ftrace->place.at;
-		zone_place(&zones[i], &region, at);
-	}
-	for (i = 0; PMSG_FIRST && pmsg && i < ftraces; i++)
-		zone_place(&ftrace[i], &region, ftrace[i].place.at + pmsg->place.size);
-	for (i = 0; i < count; i++)
+		zone_place(&zones[i], &region, zones[i].place.at);
 		if (zones[i].place.at % 4)
 			pr_warn_once("a zone begins at 0x%x: its words may take two stores\n",
 				     zones[i].place.at);
+	}
 }
 
 static int find_zones(const struct ramoops_platform_data *data)
@@ -342,6 +334,7 @@ static int find_zones(const struct ramoops_platform_data *data)
 
 	params.cpus = is_per_cpu && data->ftrace_size ? nr_cpu_ids : 1;
 	params.ftrace_sig = LINUX_VERSION_CODE;
+	params.order = PMSG_FIRST;
 	found = find_kind(&params, OOPSBOX_DUMP, data->record_size ? MOST_DUMPS : 0);
 	if (found < 0)
 		return found;

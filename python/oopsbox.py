@@ -65,7 +65,7 @@ class _ReportAnswer(ctypes.Structure):
 class _Params(ctypes.Structure):
     _fields_ = [(name, ctypes.c_uint64) for name in (
         "mem", "dump", "console", "ftrace", "pmsg", "ecc", "cpus", "block", "ecc_dump", "ecc_console", "ecc_ftrace",
-        "ecc_pmsg")] + [("ftrace_sig", ctypes.c_uint32), ("unused", ctypes.c_uint32)]
+        "ecc_pmsg")] + [("ftrace_sig", ctypes.c_uint32), ("order", ctypes.c_uint32)]
 
 
 class _ZoneAnswer(ctypes.Structure):

@@ -2,11 +2,13 @@
 use Rattle.std.proofs.Common.{◌≡◌, ℕ, zero, suc, ◌+◌, ◌*◌, ◌/◌, true, false, List, [], ◌∷◌, ◌++◌, map, slice_get, Some}
 use Rattle.std.proofs.Common.{Ok, refl, sym, subst, ◌∙◌}
 use Rattle.std.specs.List.{AllByRecursion, range_with_len}
-use Rattle.zone_spec.specs.declared.Kind.TheVariants.{Dump}
+use Rattle.zone_spec.specs.declared.Kind.TheVariants.{Dump, Pmsg}
 use Rattle.zone_spec.specs.declared.Zone.{Zone}
 use Rattle.zone_spec.specs.declared.params.Params.{Params}
 use Rattle.zone_spec.specs.declared.params.Row.{Row}
-use Rattle.zone_spec.specs.Layout.{even, dump_memory, dump_count, rows, zone_at, zones_from, layout_of}
+use Rattle.zone_spec.specs.Layout.{even, dump_memory, dump_count, rows, zone_at, zones_from, layout_of, rounded}
+use Rattle.zone_spec.specs.Layout.{one_row, ftrace_row}
+use Rattle.ramoops_layout.proofs.Faultless.{all_ordered}
 use Rattle.zone_spec.specs.Records.{is_of}
 use Rattle.ramoops_layout.proofs.WholeLayout.{no_fault}
 use Rattle.ram_session.specs.Kernels.{DumpsAlike}
@@ -57,7 +59,11 @@ not_dump cap cap' e = absurd (cc)
 all_caps : (p : Params) → AllByRecursion (HasCap (dump_cap p)) (zones_from p 0 (rows p))
 all_caps p = rows_caps p (dump_cap p) 0 (rows p) (
   λ d. refl,
-  (λ d. not_dump _ _ d, (λ d. not_dump _ _ d, (λ d. not_dump _ _ d, tt))),
+  (
+    λ d. not_dump _ _ d,
+    all_ordered (RowHasCap p (dump_cap p)) p.order (ftrace_row p) (one_row Pmsg (rounded p.pmsg))
+        (λ d. not_dump _ _ d) (λ d. not_dump _ _ d),
+  ),
 )
 
 pub dumps_alike : (p : Params) (zones : List Zone) → layout_of p ≡ Ok zones → DumpsAlike zones

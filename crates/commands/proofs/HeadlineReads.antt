@@ -4,6 +4,8 @@ use Rattle.std.proofs.Common.{nat_lt, List, [], ◌∷◌, ◌++◌, length, dro
 use Rattle.std.proofs.Common.{Result, Ok, Err, IfSome, refl, sym, ap, ◌∙◌, subst, arith, append_assoc, append-nil}
 use Rattle.std.specs.Option.{option_and_then, unwrap_or}
 use Rattle.std.specs.List.{list_all}
+use Rattle.std.specs.Prelude.{bytes_eq, position}
+use Rattle.std.proofs.lemmas.List.Quantifiers.{position-Some}
 use Rattle.std.specs.Char.{is_digit}
 use Rattle.std.specs.Str.Parse.{digits_value}
 use Rattle.std.proofs.lemmas.Bool.{ltb-true}
@@ -26,7 +28,7 @@ use Rattle.machine_spec.specs.Headline.{EachOffZone}
 use Rattle.machine_laws.specs.ZoneReads.{ReadsZone}
 use Rattle.machine_laws.proofs.ZoneReads.{sound_state_reads_zones}
 use Rattle.grammar_spec.specs.Numbers.{digits_number, number_of, begins}
-use Rattle.grammar_spec.specs.Words.{KeyTable, given, value_text, ok_unless}
+use Rattle.grammar_spec.specs.Words.{given, value_text, value_of, ok_unless}
 use Rattle.grammar_spec.specs.ZoneWords.{keys, first_fault, params_of}
 use Rattle.grammar_spec.specs.BlkWords.{first_fault as blk_first_fault, params_of as blk_params_of}
 use Rattle.blk_spec.specs.declared.BlkLayout.{BlkLayout}
@@ -97,13 +99,20 @@ or_zero : (o : Option ℕ) → ((n : ℕ) → o ≡ Some n → n < 2 ^ 32) → u
 or_zero None h = omega arith
 or_zero (Some n) h = h n refl
 
-given_small : (table : KeyTable) (words : List Text) (key : Text) → unwrap_or (given table words key) 0 < 2 ^ 32
+given_small : (words : List Text) (key : Text) → unwrap_or (given keys words key) 0 < 2 ^ 32
 unfolding given
-given_small table words key = by (value_text table words key)
+given_small words key = by (value_text keys words key)
   where
-    by : (o : Option (List ℕ)) → unwrap_or (option_and_then number_of o) 0 < 2 ^ 32
+    one : (b : Bool) (text : List ℕ)
+        → unwrap_or (cond b (position (λ (choice : List ℕ). bytes_eq choice text) keys.choices) (number_of text)) 0
+        < 2 ^ 32
+    one true text = or_zero (position (λ (choice : List ℕ). bytes_eq choice text) keys.choices)
+        (λ n e. omega (arith, (position-Some (λ (choice : List ℕ). bytes_eq choice text) keys.choices n text e).0))
+    one false text = or_zero (number_of text) (number_small text)
+
+    by : (o : Option (List ℕ)) → unwrap_or (option_and_then (value_of keys key) o) 0 < 2 ^ 32
     by None = omega arith
-    by (Some text) = or_zero (number_of text) (number_small text)
+    by (Some text) = one (bytes_eq key keys.choice) text
 
 -- ---- the zones of a plan are a layout
 
@@ -124,7 +133,7 @@ laid command params plan (Err fault) e h small = absurd (cc)
 read : (command : RamCommand) (before : ℕ) (words : List Text) (plan : RamPlan) (o : Option ParamFault)
     → with_params command before (ok_unless o (params_of words)) ≡ Ok (OfRam plan) → IsLayout plan.zones (mem_of plan)
 read command before words plan None h = laid command (params_of words) plan (layout_of (params_of words)) refl h
-    (given_small keys words (codes "ftrace_sig"))
+    (given_small words (codes "ftrace_sig"))
 read command before words plan (Some fault) h = absurd (cc)
 
 -- a block store's plan is none of an image
@@ -394,7 +403,7 @@ first_move plan from to (Err fault) e small h = absurd (cc)
 second_words : (plan : MovePlan) (from : Params) (before : ℕ) (words : List Text) (o : Option ParamFault)
     → with_second_params from before (ok_unless o (params_of words)) ≡ Ok (OfMove plan) → IsLaidMove plan
 second_words plan from before words None h = first_move plan from (params_of words) (layout_of from) refl
-    (given_small keys words (codes "ftrace_sig")) h
+    (given_small words (codes "ftrace_sig")) h
 second_words plan from before words (Some fault) h = absurd (cc)
 
 first_words : (plan : MovePlan) (second before : ℕ) (to words : List Text) (o : Option ParamFault)

@@ -23,7 +23,7 @@ use Rattle.move_laws.specs.Moves.{LogsFit, ReadsLog}
 use Rattle.move_laws.specs.Listed.{AreNamed}
 use Rattle.move_laws.proofs.MovedState.{moved_image_reads, moved_image_is_sound}
 use Rattle.move_laws.proofs.SavedLogs.{image_logs_fit}
-use Rattle.move_laws.proofs.Ranks.{layouts_are_named, layouts_keep_records}
+use Rattle.move_laws.proofs.Rising.{layouts_are_named, layouts_keep_records}
 use Rattle.command_spec.specs.Commands.{MovePlan, laid_mem, after_boot, Wanted, stops, wanted_move, OfMove}
 use Rattle.command_spec.specs.Answers.{Outside, IfHolds, WritesAll}
 use Rattle.command_spec.specs.declared.Stop.TheVariants.{Short}

@@ -14,6 +14,9 @@ use Rattle.zone_spec.specs.declared.params.Params.{Params}
 use Rattle.zone_spec.specs.declared.params.Row.{Row}
 use Rattle.ramoops.proofs.Lists.{get-of-map}
 use Rattle.zone_spec.specs.Layout.{rounded, even, dump_memory, dump_count, rows, zone_at, zones_from, layout_of, ecc_of}
+use Rattle.zone_spec.specs.Layout.{ordered}
+use Rattle.zone_spec.specs.declared.params.Order.{Order}
+use Rattle.zone_spec.specs.declared.params.Order.TheVariants.{FtracePmsg, PmsgFtrace}
 use Rattle.zone_spec.specs.Layouts.{IsLayout, is_zone, zone_place}
 use Rattle.zone_spec.specs.Parts.{AreBytes, standing_words}
 use Rattle.zone_spec.specs.Ring.{IsRingForm, IsOpen, IsOpenUnlessDump}
@@ -98,12 +101,13 @@ got_is (x ∷ xs) zero z e = cc
 got_is (x ∷ xs) (suc i) z e = got_is xs i z e
 
 -- there are fewer zones in front of it than in all
-in_front : (d c f m sd sc sf sm : ℕ) → 0 < f
+in_front : (order : Order) (d c f m sd sc sf sm : ℕ) → 0 < f
     → let rs : List Row = record { kind = Dump; count = d; size = sd } ∷ record { kind = Console; count = c; size = sc }
-    ∷ record { kind = Ftrace; count = f; size = sf } ∷ record { kind = Pmsg; count = m; size = sm } ∷ [] in
+    ∷ ordered order (record { kind = Ftrace; count = f; size = sf }) (record { kind = Pmsg; count = m; size = sm }) in
     rows_place shared_name rs < all_count rs
 unfolding rows_place
-in_front d c f m sd sc sf sm h = rw (lt-ltb 0 f h) (omega (arith, h))
+in_front FtracePmsg d c f m sd sc sf sm h = rw (lt-ltb 0 f h) (omega (arith, h))
+in_front PmsgFtrace d c f m sd sc sf sm h = rw (lt-ltb 0 f h) (omega (arith, h))
 
 -- the zone ftrace-0 of a layout, without parity
 record IsPlainFtrace (zones : List Zone) (place : ℕ) (z : Zone) : Type 0 where
@@ -156,7 +160,7 @@ module _ (p : Params) (zones : List Zone) (laid : layout_of p ≡ Ok zones) (pla
       let same = (no_fault p zones laid).same in
       let f : 0 < (if rounded p.ftrace == 0 then 0 else p.cpus) =
       rw (ne_eqb (rounded p.ftrace) 0 (omega (arith, ftrace_row))) cpus in
-      let less = in_front (dump_count p) (if rounded p.console == 0 then 0 else 1)
+      let less = in_front p.order (dump_count p) (if rounded p.console == 0 then 0 else 1)
       (if rounded p.ftrace == 0 then 0 else p.cpus) (if rounded p.pmsg == 0 then 0 else 1)
       (even (dump_memory p / dump_count p)) (rounded p.console) (even (rounded p.ftrace / p.cpus)) (rounded p.pmsg) f in
       let at : position_or_len (is_zone shared_name) zones ≡ rows_place shared_name (rows p) =

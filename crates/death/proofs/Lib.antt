@@ -12,3 +12,5 @@ mod CauseRows
 mod Stands
 mod Walks
 mod EndRows
+mod Names
+mod Pieces

@@ -7,6 +7,8 @@ use Rattle.death_spec.specs.declared.Opened.{Opened}
 use Rattle.death_spec.specs.Lines.{kind, said}
 use Rattle.death_spec.specs.Causes.{open_after, open_below, found, last_found}
 use Rattle.death_spec.specs.Endings.{last_said}
+use Rattle.death_spec.specs.declared.Above.{Above}
+use Rattle.death_spec.specs.Reports.{last_two}
 use Rattle.death.proofs.MarkedLines.{or_or, or_cond}
 
 pub open_more : (text : List ℕ) (opened : Option Opened) (line : Line) (lines : List Line)
@@ -46,3 +48,19 @@ said_more text line lines last =
 pub said_none : (text : List ℕ) (last : Option Line) → option_or (last_said text []) last ≡ last
 unfolding last_said
 said_none text last = refl
+
+-- ---- the last two lines
+
+-- they, or one line more
+abbrev pub two_with : List ℕ → Above → Line → Above
+two_with text found line =
+    cond (nat_lt 0 (length (said text line))) (record { upper = found.lower; lower = Some line }) found
+
+pub two_more : (text : List ℕ) (found : Above) (line : Line) (lines : List Line)
+    → last_two text found (line ∷ lines) ≡ last_two text (two_with text found line) lines
+unfolding last_two
+two_more text found line lines = refl
+
+pub two_none : (text : List ℕ) (found : Above) → last_two text found [] ≡ found
+unfolding last_two
+two_none text found = refl

@@ -2,6 +2,7 @@
 ghost use Rattle.std.specs.Prelude.{◌≡◌, [], ◌∷◌, ◌++◌, codes, Some, None};
 ghost use Rattle.std.specs.Option.{option_map};
 ghost use Rattle.death_spec.specs.Reports.{death_of, trace_of};
+ghost use Rattle.death_spec.specs.Signatures.{signature_of};
 
 /// A panic after an oops is told by its own line, and the oops's place in the code is not its function.
 pub fn a_panic_is_not_named_by_an_oops()
@@ -51,4 +52,33 @@ pub fn a_program_tells_nothing()
 pub fn unsure_entries_are_left_out()
     ensures { trace_of (codes "BUG: a" ++ 10 ∷ codes "Call Trace:" ++ 10 ∷ codes "? b+0x1" ++ 10 ∷ codes " c+0x1")
         ≡ record { start = 28; end = 29 } ∷ [] }
+{}
+
+/// One fault has one signature, whatever its address, its task and its place in the function.
+pub fn one_fault_has_one_signature()
+    ensures one { option_map (signature_of (codes "BUG: kernel NULL pointer dereference, address: 18" ++ 10
+        ∷ codes "RIP: 0010:b.cold+0x5 [m]"))
+        (death_of (codes "BUG: kernel NULL pointer dereference, address: 18" ++ 10
+        ∷ codes "RIP: 0010:b.cold+0x5 [m]"))
+        ≡ Some (codes "BUG: kernel NULL pointer dereference in b") }
+    ensures other { option_map (signature_of (codes "<1>[ 2.2] Unable to handle kernel NULL pointer dereference" ++ 10
+        ∷ codes "<4>[ 2.3] pc : b+0x28"))
+        (death_of (codes "<1>[ 2.2] Unable to handle kernel NULL pointer dereference" ++ 10
+        ∷ codes "<4>[ 2.3] pc : b+0x28"))
+        ≡ Some (codes "BUG: kernel NULL pointer dereference in b") }
+{}
+
+/// Numbers are left out of a panic's signature, and digits within a word stay.
+pub fn numbers_are_left_out()
+    ensures { option_map (signature_of (codes "Kernel panic - not syncing: ext4: 0x1c of 7,9"))
+        (death_of (codes "Kernel panic - not syncing: ext4: 0x1c of 7,9"))
+        ≡ Some (codes "kernel panic: ext4: .. of ..") }
+{}
+
+/// What a journal wrote before the kernel's words is passed over, and so are the date of a serial capture and a colour.
+pub fn fronts_are_passed_over()
+    ensures journal { option_map (λ d. d.telling.text) (death_of (codes "Nov 29 22:45:01 host kernel: BUG: a"))
+        ≡ Some 29 }
+    ensures capture { option_map (λ d. d.telling.level)
+        (death_of (codes "[2026-11-29 22:45:01] " ++ 27 ∷ codes "[1;31m<1>[ 1.2] BUG: a")) ≡ Some 29 }
 {}

@@ -10,16 +10,20 @@ mod endings;
 pub mod laws;
 mod lines;
 mod marks;
+mod messages;
+mod prefixes;
 mod reports;
+mod signatures;
 mod telling;
 mod traces;
 
 pub use death_spec::{Class, Death, Ended, Ending, Line, Mark, Span};
 pub use endings::ending;
-pub use lines::{is_a, level, next_line, part};
+pub use lines::{is_a, level, next_line, part, said};
+pub use signatures::signature;
 use std::alloc::{AllocError, Global};
 
-/// Why the machine died, as a text tells it; `None` if it has no telling line. It takes no memory, and at most six
+/// Why the machine died, as a text tells it; `None` if it has no telling line. It takes no memory, and at most seven
 /// passes over the text.
 #[tactic(auto, unfolding(death_spec::specs::Reports::death_of))]
 pub fn death(text: &[u8]) -> Option<Death>

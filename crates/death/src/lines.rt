@@ -2,11 +2,13 @@
 ghost use Rattle.std.specs.Prelude.{◌≡◌, ◌≤◌, ◌<◌, ◌+◌, ◌^◌, ℕ, [], ◌∷◌, length, IfSome, IfNone};
 ghost use Rattle.death_spec.specs.Marks.{rows};
 ghost use Rattle.death.specs.Rows.{Covers};
-ghost use Rattle.death_spec.specs.Lines.{bracket_end, level_len, stamp_len, caller_len, content_len, line_of};
+ghost use Rattle.death_spec.specs.Lines.{bracket_end, level_len, stamp_len, caller_len, unreturned_len, uncoloured_len};
+ghost use Rattle.death_spec.specs.Lines.{content, line_of};
 ghost use Rattle.death_spec.specs.Lines.{lines_from, part, digits_level, level_of, is_kernels, said, kind, is_a};
 ghost use Rattle.death_spec.specs.Lines.{unnumbered, mark_in};
 
-use crate::marks::{byte_at, is_mark, line_len, mark_by, mark_of, run_from, tail};
+use crate::marks::{byte_at, is_mark, line_len, mark_by, mark_of, run_from, starts_with, tail};
+use crate::prefixes::past_pieces;
 use death_spec::{Class, Line, Mark};
 
 fn bracket_end(text: &[u8], opening: u8, from: usize, to: usize, close: u8) -> usize
@@ -50,8 +52,8 @@ fn caller_len(text: &[u8]) -> usize
     }
 }
 
-fn content_len(piece: &[u8]) -> usize
-    ensures len { result ≡ content_len piece.now }
+fn unreturned_len(piece: &[u8]) -> usize
+    ensures len { result ≡ unreturned_len piece.now }
     ensures within { result ≤ length piece.now }
 {
     let len = piece.len();
@@ -62,20 +64,43 @@ fn content_len(piece: &[u8]) -> usize
     }
 }
 
+fn uncoloured_len(piece: &[u8]) -> usize
+    ensures len { result ≡ uncoloured_len piece.now }
+    ensures within { result ≤ length piece.now }
+{
+    let len = piece.len().saturating_sub(4);
+    if starts_with(tail(piece, len), b"\x1b[0m".as_slice()) {
+        len
+    } else {
+        piece.len()
+    }
+}
+
+fn content(piece: &[u8]) -> &[u8]
+    ensures content { result.now ≡ content piece.now }
+    ensures within { length result.now ≤ length piece.now }
+{
+    let unreturned = &piece[..unreturned_len(piece)];
+    &unreturned[..uncoloured_len(unreturned)]
+}
+
 #[tactic(auto, unfolding(death_spec::specs::Lines::line_of))]
 fn line_of(at: usize, piece: &[u8]) -> Line
     requires { at + length piece.now < 2 ^ 63 }
     ensures { result ≡ line_of at piece.now }
 {
-    let stamp = level_len(piece);
-    let caller = stamp + stamp_len(&piece[stamp..]);
-    let blanks = caller + caller_len(&piece[caller..]);
+    let bytes = content(piece);
+    let level = past_pieces(bytes, true, 0);
+    let stamp = level + level_len(tail(bytes, level));
+    let caller = stamp + stamp_len(tail(bytes, stamp));
+    let behind = caller + caller_len(tail(bytes, caller));
     Line {
         start: at,
+        level: at + level,
         stamp: at + stamp,
         caller: at + caller,
-        text: at + run_from(piece, blanks, Class::Blank),
-        end: at + content_len(piece),
+        text: at + past_pieces(bytes, false, behind),
+        end: at + bytes.len(),
         next: at + piece.len() + 1,
     }
 }
@@ -118,8 +143,8 @@ fn digits_level(digits: &[u8]) -> u8
 pub fn level(text: &[u8], line: Line) -> Option<u8>
     ensures { result ≡ level_of text.now line }
 {
-    if line.start < line.stamp {
-        Some(digits_level(part(text, line.start + 1, line.stamp - 1)))
+    if line.level < line.stamp {
+        Some(digits_level(part(text, line.level + 1, line.stamp - 1)))
     } else {
         None
     }
@@ -128,11 +153,11 @@ pub fn level(text: &[u8], line: Line) -> Option<u8>
 fn is_kernels(text: &[u8], line: Line) -> bool
     ensures { result ≡ is_kernels text.now line }
 {
-    if line.stamp < line.start {
+    if line.stamp < line.level {
         return false;
     }
-    let len = line.stamp - line.start;
-    len == 0 || (len == 3 && byte_at(text, line.start + 1) < b'8')
+    let len = line.stamp - line.level;
+    len == 0 || (len == 3 && byte_at(text, line.level + 1) < b'8')
 }
 
 /// What the kernel says in a line.
@@ -147,7 +172,7 @@ pub fn said(text: &[u8], line: Line) -> &[u8]
     }
 }
 
-fn unnumbered(words: &[u8]) -> &[u8]
+pub fn unnumbered(words: &[u8]) -> &[u8]
     ensures { result.now ≡ unnumbered words.now }
 {
     part(words, run_from(words, 4, Class::Digit) + 1, words.len())

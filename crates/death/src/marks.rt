@@ -185,6 +185,9 @@ fn is_in(b: u8, class: Class) -> bool
         Class::Symbol => is_of_name(b) && b != b'.',
         Class::Digit => 48 <= b && b <= 57,
         Class::Number => (48 <= b && b <= 57) || b == b'.',
+        Class::Colonless => !(is_blank(b) || b == b':'),
+        Class::Bracketed => b != b']',
+        Class::Parameter => 32 <= b && b <= 63,
     }
 }
 

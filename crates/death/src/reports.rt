@@ -8,14 +8,16 @@ ghost use Rattle.death_spec.specs.Traces.{is_entry, name_in};
 ghost use Rattle.death_spec.specs.Reports.{report, first_where, first_in, own_in, trace_in, span, number_end, task_at};
 ghost use Rattle.death_spec.specs.Reports.{task_end, cpu_in, task_in, kernel_in, hung_in, task_of, named_from, place_end};
 ghost use Rattle.death_spec.specs.Reports.{name_from, blamed_at, place_in, entry_end, entry_in, traced_in, is_next_at};
+ghost use Rattle.death_spec.specs.Reports.{own_kernel_in, kernel_of, message_of};
 ghost use Rattle.death_spec.specs.Reports.{sure, by_call, of_place, of_calls, function_in, death_with, death_at};
-ghost use Rattle.death_spec.specs.declared.Mark.TheVariants.{HungTask, Processor, Place, Link};
+ghost use Rattle.death_spec.specs.declared.Mark.TheVariants.{HungTask, Processor, Place, Link, Own};
 
 use crate::lines::{is_a, kind, kind_by, next_line, part, said};
 use crate::marks::{
     begins, byte_at, firsts, front_len, is_blank, is_mark, place_of, run, run_from, starts_with,
     tail,
 };
+use crate::messages::message_of;
 use crate::telling::{ends_report, is_of_oops, is_panic};
 use crate::traces;
 use death_spec::{Class, Death, Function, Line, Mark, Span};
@@ -29,6 +31,8 @@ struct Named {
     link: Option<Line>,
     // Of a call trace.
     entry: Option<Line>,
+    // The kernel's line in the report of a task that hangs.
+    own: Option<Line>,
 }
 
 // The earlier of two lines, the second of them if it counts.
@@ -47,6 +51,7 @@ fn heads(text: &[u8], telling: Line) -> Named
     ensures place { result.place ≡ first_in text.now Place telling }
     ensures link { result.link ≡ first_in text.now Link telling }
     ensures entry { result.entry ≡ first_where (λ line. is_entry (said text.now line)) (report text.now telling) }
+    ensures own { result.own ≡ first_in text.now Own telling }
 {
     let firsts = firsts();
     let is_open = is_of_oops(kind_by(&firsts, text, telling));
@@ -54,6 +59,7 @@ fn heads(text: &[u8], telling: Line) -> Named
     let mut place = None;
     let mut link = None;
     let mut entry = None;
+    let mut own = None;
     let mut at = telling.next;
     'lines: while let Some(line) = next_line(text, at) {
         let mark = kind_by(&firsts, text, line);
@@ -63,12 +69,14 @@ fn heads(text: &[u8], telling: Line) -> Named
         let is_processor = is_mark(mark, Mark::Processor);
         let is_place = is_mark(mark, Mark::Place);
         let is_link = is_mark(mark, Mark::Link);
+        let is_own = is_mark(mark, Mark::Own);
         let words = said(text, line);
         let is_entry = traces::is_entry(words);
         processor = earlier(processor, is_processor, line);
         place = earlier(place, is_place, line);
         link = earlier(link, is_link, line);
         entry = earlier(entry, is_entry, line);
+        own = earlier(own, is_own, line);
         at = line.next;
     }
     Named {
@@ -76,6 +84,7 @@ fn heads(text: &[u8], telling: Line) -> Named
         place,
         link,
         entry,
+        own,
     }
 }
 
@@ -91,6 +100,7 @@ fn own_heads(text: &[u8], telling: Line) -> Named
     ensures place { result.place ≡ own_in text.now Place telling }
     ensures link { result.link ≡ own_in text.now Link telling }
     ensures entry { result.entry ≡ first_where (λ line. is_entry (said text.now line)) (report text.now telling) }
+    ensures own { result.own ≡ first_in text.now Own telling }
 {
     let heads = heads(text, telling);
     let hangs = is_a(text, Mark::HungTask, telling);
@@ -99,6 +109,7 @@ fn own_heads(text: &[u8], telling: Line) -> Named
         place: unless(hangs, heads.place),
         link: unless(hangs, heads.link),
         entry: heads.entry,
+        own: heads.own,
     }
 }
 
@@ -163,6 +174,25 @@ fn kernel_in(text: &[u8], line: Option<Line>) -> Option<Span>
     let line = line?;
     let words = said(text, line);
     span(line, task_end(words) + 1, words.len())
+}
+
+fn own_kernel_in(text: &[u8], line: Option<Line>) -> Option<Span>
+    ensures { result ≡ own_kernel_in text.now line }
+{
+    let line = line?;
+    span(line, 0, said(text, line).len())
+}
+
+fn kernel_of(text: &[u8], telling: Line, named: Named) -> Option<Span>
+    requires processor { named.processor ≡ own_in text.now Processor telling }
+    requires own { named.own ≡ first_in text.now Own telling }
+    ensures { result ≡ kernel_of text.now telling }
+{
+    if is_a(text, Mark::HungTask, telling) {
+        own_kernel_in(text, named.own)
+    } else {
+        kernel_in(text, named.processor)
+    }
 }
 
 // The task that hangs.
@@ -244,7 +274,7 @@ fn blamed_at(text: &[u8], line: Line, at: Option<usize>) -> Option<Span>
     }
 }
 
-fn place_in(text: &[u8], line: Option<Line>) -> Option<Span>
+pub fn place_in(text: &[u8], line: Option<Line>) -> Option<Span>
     ensures { result ≡ place_in text.now line }
 {
     let line = line?;
@@ -346,9 +376,10 @@ pub fn death_at(text: &[u8], telling: Line, second: Option<Line>) -> Death
     Death {
         telling,
         second,
+        message: message_of(text, telling),
         cpu: cpu_in(text, named.processor),
         task: task_of(text, telling, named.processor),
-        kernel: kernel_in(text, named.processor),
+        kernel: kernel_of(text, telling, named),
         function: span_of(function),
         is_next: is_next(function),
     }

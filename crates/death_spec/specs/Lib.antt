@@ -1,7 +1,9 @@
 pub mod Marks
+pub mod Fronts
 pub mod Lines
 pub mod Telling
 pub mod Causes
 pub mod Traces
 pub mod Reports
 pub mod Endings
+pub mod Signatures

@@ -1,12 +1,15 @@
--- The lines of a crash log, as printk writes them (kernel/printk/printk.c): `<4>[    2.973642][   T12] text`
-use Rattle.std.specs.Prelude.{ℕ, ◌+◌, ◌-◌, ◌*◌, ◌%◌, Bool, ◌&&◌, ◌||◌, ◌==◌, nat_lt, nat_le, if◌then◌else◌, List, []}
+-- The lines of a crash log, as printk writes them (kernel/printk/printk.c): `<4>[    2.973642][   T12] text`, perhaps
+-- behind what a journal, a syslog or a serial capture wrote before them
+use Rattle.std.specs.Prelude.{ℕ, ◌+◌, ◌-◌, ◌*◌, ◌%◌, Bool, true, false, ◌&&◌, ◌||◌, ◌==◌, nat_eq, nat_lt, nat_le}
+use Rattle.std.specs.Prelude.{if◌then◌else◌, List, [], codes}
 use Rattle.std.specs.Prelude.{◌∷◌, length, take, drop, slice_index, Option, Some, None}
-use Rattle.std.specs.List.{slice_split}
+use Rattle.std.specs.List.{slice_split, starts_with}
 use Rattle.death_spec.specs.declared.Line.{Line}
 use Rattle.death_spec.specs.declared.Class.TheVariants.{Blank, Digit, Number}
 use Rattle.death_spec.specs.declared.Mark.{Mark}
 use Rattle.death_spec.specs.declared.Mark.TheVariants.{Numbered}
 use Rattle.death_spec.specs.Marks.{run, mark_of, is_mark}
+use Rattle.death_spec.specs.Fronts.{past_pieces}
 
 -- where a bracket ends that opens at the front and has the bytes between two places in it; 0 if it is none
 abbrev pub bracket_end : ℕ → ℕ → ℕ → ℕ → List ℕ → ℕ
@@ -31,21 +34,32 @@ caller_len text =
     then bracket_end 91 (letter + 1) (letter + 1 + run Digit (drop (letter + 1) text)) 93 text else 0
 
 -- without the carriage return that a serial console adds
-abbrev pub content_len : List ℕ → ℕ
-content_len piece = if slice_index piece (length piece - 1) == 13 then length piece - 1 else length piece
+abbrev pub unreturned_len : List ℕ → ℕ
+unreturned_len piece = if slice_index piece (length piece - 1) == 13 then length piece - 1 else length piece
+
+-- without the end of a colour, escape and `[0m`
+abbrev pub uncoloured_len : List ℕ → ℕ
+uncoloured_len piece =
+    if starts_with nat_eq (drop (length piece - 4) piece) (27 ∷ codes "[0m") then length piece - 4 else length piece
+
+abbrev pub content : List ℕ → List ℕ
+content piece =
+    let unreturned = take (unreturned_len piece) piece in take (uncoloured_len unreturned) unreturned
 
 -- the line with these bytes, at a place of the text
 unfoldable pub line_of : ℕ → List ℕ → Line
 line_of at piece =
-    let stamp = level_len piece in
-    let caller = stamp + stamp_len (drop stamp piece) in
-    let blanks = caller + caller_len (drop caller piece) in
+    let bytes = content piece in
+    let level = past_pieces true 8 bytes 0 in
+    let stamp = level + level_len (drop level bytes) in
+    let caller = stamp + stamp_len (drop stamp bytes) in
     record {
       start = at;
+      level = at + level;
       stamp = at + stamp;
       caller = at + caller;
-      text = at + (blanks + run Blank (drop blanks piece));
-      end = at + content_len piece;
+      text = at + past_pieces false 8 bytes (caller + caller_len (drop caller bytes));
+      end = at + length bytes;
       next = at + length piece + 1;
     }
 
@@ -70,13 +84,13 @@ digits_level n (b ∷ bs) = digits_level ((10 * n + (b - 48)) % 8) bs
 -- the level of a line, from 0, the gravest, to 7; what its number has above that is the facility (LOG_LEVEL)
 abbrev pub level_of : List ℕ → Line → Option ℕ
 level_of text line =
-    if nat_lt line.start line.stamp then Some (digits_level 0 (part text (line.start + 1) (line.stamp - 1))) else None
+    if nat_lt line.level line.stamp then Some (digits_level 0 (part text (line.level + 1) (line.stamp - 1))) else None
 
 -- a line of the kernel's own has a level from `<0>` to `<7>`, or no level is printed. A line that a program wrote has
 -- a facility too, so its number is 8 or more (devkmsg_write)
 abbrev pub is_kernels : List ℕ → Line → Bool
 is_kernels text line =
-    line.stamp == line.start || (line.stamp == line.start + 3 && nat_lt (slice_index text (line.start + 1)) 56)
+    line.stamp == line.level || (line.stamp == line.level + 3 && nat_lt (slice_index text (line.level + 1)) 56)
 
 -- what the kernel says in a line
 abbrev pub said : List ℕ → Line → List ℕ

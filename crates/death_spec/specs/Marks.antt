@@ -7,10 +7,11 @@ use Rattle.death_spec.specs.declared.Mark.{Mark}
 use Rattle.death_spec.specs.declared.Mark.TheVariants.{Panic, Fault, SoftLockup, HardLockup, StackOverflow}
 use Rattle.death_spec.specs.declared.Mark.TheVariants.{SystemError, Oops, Warning, HungTask, Stall, End, Processor}
 use Rattle.death_spec.specs.declared.Mark.TheVariants.{Place, Link, Kernel, Blocked, Offset, Unsure, Stack, Address}
-use Rattle.death_spec.specs.declared.Mark.TheVariants.{Bare, Numbered}
+use Rattle.death_spec.specs.declared.Mark.TheVariants.{Bare, Numbered, Own, Cut, Message}
 use Rattle.death_spec.specs.declared.words.TheConstants.{WORDS}
 use Rattle.death_spec.specs.declared.Class.{Class}
 use Rattle.death_spec.specs.declared.Class.TheVariants.{Line, Blank, Word, Name, Symbol, Digit, Number}
+use Rattle.death_spec.specs.declared.Class.TheVariants.{Colonless, Bracketed, Parameter}
 
 -- marks are told apart by their place in the list of marks
 abbrev pub number_of : Mark → ℕ
@@ -36,6 +37,9 @@ number_of Stack = 18
 number_of Address = 19
 number_of Bare = 20
 number_of Numbered = 21
+number_of Own = 22
+number_of Cut = 23
+number_of Message = 24
 
 abbrev pub is_same : Mark → Mark → Bool
 is_same a b = number_of a == number_of b
@@ -90,6 +94,9 @@ is_in Name b = is_of_name b
 is_in Symbol b = is_of_name b && not (b == 46)
 is_in Digit b = is_digit b
 is_in Number b = is_digit b || b == 46
+is_in Colonless b = not (is_blank b || b == 58)
+is_in Bracketed b = not (b == 93)
+is_in Parameter b = nat_le 32 b && nat_le b 63
 
 -- how many bytes at the front are of a class
 abbrev pub run : Class → List ℕ → ℕ

@@ -1,5 +1,5 @@
 -- What the report below the telling line names
-use Rattle.std.specs.Prelude.{ℕ, ◌+◌, ◌-◌, ◌==◌, Bool, false, not, ◌||◌, nat_eq, nat_lt, if◌then◌else◌, List, [], ◌∷◌}
+use Rattle.std.specs.Prelude.{ℕ, ◌+◌, ◌-◌, ◌==◌, Bool, false, not, ◌&&◌, ◌||◌, nat_eq, nat_lt, if◌then◌else◌, List, [], ◌∷◌}
 use Rattle.std.specs.Prelude.{map, length, drop, slice_index, codes, Option, Some, None}
 use Rattle.std.specs.List.{take_while, starts_with}
 use Rattle.std.specs.Option.{option_map, option_map_or, option_or}
@@ -9,8 +9,10 @@ use Rattle.death_spec.specs.declared.Function.{Function}
 use Rattle.death_spec.specs.declared.Death.{Death}
 use Rattle.death_spec.specs.declared.Class.TheVariants.{Blank, Digit, Name}
 use Rattle.death_spec.specs.declared.Mark.{Mark}
-use Rattle.death_spec.specs.declared.Mark.TheVariants.{HungTask, Processor, Place, Link, Kernel, Blocked, Offset}
-use Rattle.death_spec.specs.Marks.{run, front_len, begins, place_of, is_blank}
+use Rattle.death_spec.specs.declared.Mark.TheVariants.{Fault, Warning, HungTask, Processor, Place, Link, Kernel, Blocked, Offset}
+use Rattle.death_spec.specs.declared.Mark.TheVariants.{Own, Cut, Message}
+use Rattle.death_spec.specs.declared.Above.{Above}
+use Rattle.death_spec.specs.Marks.{run, is_mark, front_len, begins, place_of, is_blank}
 use Rattle.death_spec.specs.Lines.{lines_from, part, said, kind, is_a}
 use Rattle.death_spec.specs.Telling.{is_panic, is_of_oops, ends_report, telling_line}
 use Rattle.death_spec.specs.Causes.{cause_of}
@@ -76,6 +78,16 @@ hung_in text line = span line (front_len (said text line)) (place_of Blocked (sa
 abbrev pub task_of : List ℕ → Line → Option Span
 task_of text telling =
     if is_a text HungTask telling then hung_in text telling else task_in text (own_in text Processor telling)
+
+-- the kernel; a task that hangs has a line of its own for it: `      Not tainted 6.12.0 #1`
+abbrev pub own_kernel_in : List ℕ → Option Line → Option Span
+own_kernel_in text None = None
+own_kernel_in text (Some line) = span line 0 (length (said text line))
+
+abbrev pub kernel_of : List ℕ → Line → Option Span
+kernel_of text telling =
+    if is_a text HungTask telling then own_kernel_in text (first_in text Own telling)
+    else kernel_in text (own_in text Processor telling)
 
 -- ---- the function
 
@@ -145,15 +157,44 @@ function_in text telling =
     then option_or (option_map (by_call text) (traced_in text telling)) (of_place text telling)
     else option_or (of_place text telling) (of_calls text telling)
 
+-- ---- the message
+
+-- the last two lines in which the kernel says something
+unfoldable pub last_two : List ℕ → Above → List Line → Above
+last_two text found [] = found
+last_two text found (line ∷ lines) =
+    last_two text
+    (if nat_lt 0 (length (said text line)) then record { upper = found.lower; lower = Some line } else found) lines
+
+abbrev pub above : List ℕ → Line → Above
+above text line =
+    last_two (part text 0 line.start) (record { upper = None; lower = None }) (lines_from (part text 0 line.start) 0)
+
+abbrev pub kind_if : List ℕ → Option Line → Option Mark
+kind_if text None = None
+kind_if text (Some line) = kind text line
+
+-- a warning's message stands between `cut here` and its head, and that of a bug above both (WARN, CHECK_DATA_CORRUPTION)
+abbrev pub message_in : List ℕ → Option Mark → Above → Option Line
+message_in text head found =
+    if is_mark Warning head && is_mark Cut (kind_if text found.upper) && not (is_mark Cut (kind_if text found.lower))
+    then found.lower
+    else if is_mark Fault head && is_mark Message (kind_if text found.upper) && is_mark Cut (kind_if text found.lower)
+    then found.upper else None
+
+abbrev pub message_of : List ℕ → Line → Option Line
+message_of text telling = message_in text (kind text telling) (above text telling)
+
 -- ---- all of it
 
 abbrev pub death_with : List ℕ → Line → Option Line → Option Line → Death
 death_with text telling second processor = record {
   telling = telling;
   second = second;
+  message = message_of text telling;
   cpu = cpu_in text processor;
   task = task_of text telling;
-  kernel = kernel_in text processor;
+  kernel = kernel_of text telling;
   function = option_map (λ f. f.span) (function_in text telling);
   is_next = option_map_or (λ f. f.is_next) (function_in text telling) false;
 }

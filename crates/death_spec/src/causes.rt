@@ -19,6 +19,9 @@ pub const CAUSES: &[(Cause, &[u8])] = &[
     (Cause::OpenFault, b"kasan.fault=panic set"),
     (Cause::OpenFault, b"scheduling while atomic"),
     (Cause::OpenWarning, b"panic_on_warn set"),
+    (Cause::OpenWarning, b"Fatal machine check"),
+    (Cause::OpenWarning, b"Fatal Machine check"),
+    (Cause::OpenWarning, b"Machine halted."),
     (Cause::OpenStackOverflow, b"kernel stack overflow"),
     (Cause::OpenSystemError, b"Asynchronous SError Interrupt"),
 ];

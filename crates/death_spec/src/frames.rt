@@ -79,6 +79,8 @@ pub const FRAMES: &[(Way, &[u8])] = &[
     (Way::Dying, b"__fortify_*"),
     (Way::Dying, b"fortify_panic"),
     (Way::Dying, b"usercopy_abort"),
+    (Way::Dying, b"__check_heap_object"),
+    (Way::Dying, b"__check_object_size"),
     (Way::Dying, b"refcount_warn_saturate"),
     (Way::Dying, b"__list_add_valid*"),
     (Way::Dying, b"__list_del_entry_valid*"),

@@ -5,11 +5,13 @@
 pub mod causes;
 pub mod ends;
 pub mod frames;
+pub mod kinds;
 pub mod words;
 
 pub use causes::{CAUSES, FIRST_PROCESS};
 pub use ends::ENDS;
 pub use frames::FRAMES;
+pub use kinds::KINDS;
 pub use words::WORDS;
 
 /// What words at the front of a text say (`WORDS` has them).
@@ -59,6 +61,12 @@ pub enum Mark {
     Bare,
     /// A processor's number before the words that count.
     Numbered,
+    /// In the report of a task that hangs: what the kernel says of itself.
+    Own,
+    /// The line before a report, `------------[ cut here ]------------`.
+    Cut,
+    /// The message of a check that found the kernel's data damaged; the head of its report stands below it.
+    Message,
 }
 
 /// What a panic is about: a report above it, by its kind and by which of that kind.
@@ -96,6 +104,13 @@ pub enum Way {
     Waiting,
 }
 
+/// The last two lines above another in which the kernel says something.
+#[derive(Clone, Copy, Debug, PartialEq, Eq)]
+pub struct Above {
+    pub upper: Option<Line>,
+    pub lower: Option<Line>,
+}
+
 /// Bytes that belong together in a line.
 #[derive(Clone, Copy, Debug, PartialEq, Eq)]
 pub enum Class {
@@ -113,21 +128,38 @@ pub enum Class {
     Digit,
     /// A decimal digit or a point.
     Number,
+    /// All but a blank and a colon.
+    Colonless,
+    /// All but `]`.
+    Bracketed,
+    /// Of a terminal's escape: from a space to `?`.
+    Parameter,
+}
+
+/// A word in what others write before a line of the kernel.
+#[derive(Clone, Copy, Debug, PartialEq, Eq)]
+pub enum Landmark {
+    /// A time of day.
+    Clock,
+    /// `kernel:`.
+    Kernel,
 }
 
 /// Where a line and its parts begin in the text, in bytes from 0. Each part ends where the next one begins, and is
 /// empty if the line has none.
 #[derive(Clone, Copy, Debug, PartialEq, Eq)]
 pub struct Line {
-    /// The level, such as `<4>`.
+    /// What others wrote before the kernel's line, such as `Nov 29 22:45:01 host kernel: `.
     pub start: usize,
+    /// The level, such as `<4>`.
+    pub level: usize,
     /// The stamp, such as `[    2.973642]`.
     pub stamp: usize,
-    /// The caller, such as `[   T12]`, and then blanks.
+    /// The caller, such as `[   T12]`, and then blanks, colours or `host kernel: `.
     pub caller: usize,
     /// What the line says.
     pub text: usize,
-    /// The end, without a carriage return.
+    /// The end, without a carriage return and the end of a colour.
     pub end: usize,
     /// The line below. Below the last line it is one more than the length of the text.
     pub next: usize,
@@ -157,6 +189,9 @@ pub struct Death {
     pub telling: Line,
     /// The panic that the telling line was the cause of.
     pub second: Option<Line>,
+    /// The line above a warning or a `kernel BUG at` that says what was wrong, such as
+    /// `refcount_t: underflow; use-after-free.`.
+    pub message: Option<Line>,
     /// The processor's number, such as `0`.
     pub cpu: Option<Span>,
     /// The task, such as `PID: 1 Comm: init`.
@@ -167,6 +202,28 @@ pub struct Death {
     pub function: Option<Span>,
     /// Whether the one that is meant mostly ends just before that function.
     pub is_next: bool,
+}
+
+/// Whose function a signature names.
+#[derive(Clone, Copy, Debug, PartialEq, Eq)]
+pub enum Blame {
+    /// None.
+    Nobody,
+    /// That of the report.
+    Report,
+    /// The one that the telling line names; without one that of the report.
+    Line,
+}
+
+/// What a byte of a text is a part of, by the bytes before it.
+#[derive(Clone, Copy, Debug, PartialEq, Eq)]
+pub enum Piece {
+    /// Neither of these.
+    Between,
+    /// A name or a word. A digit in it is no number: `ext4`.
+    Name,
+    /// A number: a digit, and letters, digits and commas behind it. `0x1c`, `179,2`.
+    Number,
 }
 
 /// How a log ends that tells of no death.

@@ -36,7 +36,7 @@ fn a_task_that_hangs(rt: HostRuntime) {
             b"Kernel panic - not syncing: hung_task: blocked tasks",
             b"-",
             b"stuck:126",
-            b"-",
+            b"Tainted: G           OE      6.12.117+deb13-cloud-arm64 #1 Debian 6.12.117-1",
             b"boom_write+0x2bc/0x468 [boom]",
         ],
     );
@@ -163,6 +163,12 @@ fn causes_by_hand(rt: HostRuntime) {
             b"NMI watchdog: Watchdog detected hard LOCKUP on cpu 0\nKernel panic - not syncing: Hard LOCKUP\n",
             b"NMI watchdog: Watchdog detected hard LOCKUP on cpu 0",
         ),
+        // source
+        (
+            b"mce: [Hardware Error]: CPU 0: Machine Check Exception: 5 Bank 4: b200000000070f0f\n\
+mce: [Hardware Error]: TSC 0\nKernel panic - not syncing: Fatal machine check\n",
+            b"mce: [Hardware Error]: CPU 0: Machine Check Exception: 5 Bank 4: b200000000070f0f",
+        ),
         // the lines that were its cause are lost
         (
             b"Kernel panic - not syncing: Hard LOCKUP\n",
@@ -210,5 +216,64 @@ fn is_next(text: &[u8]) -> bool {
     match death(text) {
         Some(found) => found.is_next,
         None => false,
+    }
+}
+
+fn has_message(text: &[u8], wanted: &[u8]) -> bool {
+    match death(text) {
+        Some(found) => message_of(text, &found) == wanted,
+        None => false,
+    }
+}
+
+fn message_of<'a>(text: &'a [u8], found: &Death) -> &'a [u8] {
+    match found.message {
+        Some(line) => text.get(line.text..line.end).unwrap_or(b"?"),
+        None => b"-",
+    }
+}
+
+// The words of the kernel's sources (lib/refcount.c, lib/list_debug.c, mm/usercopy.c, kernel/panic.c); none was seen
+// from a real kernel.
+#[test]
+fn messages_above_their_heads(rt: HostRuntime) {
+    for (text, wanted) in [
+        (
+            b"------------[ cut here ]------------\nrefcount_t: underflow; use-after-free.\n\
+WARNING: CPU: 0 PID: 7 at lib/refcount.c:28 refcount_warn_saturate+0xba/0x110\n"
+                .as_slice(),
+            b"refcount_t: underflow; use-after-free.".as_slice(),
+        ),
+        // any message of a warning
+        (
+            b"------------[ cut here ]------------\na: b\nWARNING: CPU: 0 PID: 7 at a.c:28 c+0xba/0x110\n",
+            b"a: b",
+        ),
+        (
+            b"list_del corruption. prev->next should be 1, but was 2\n------------[ cut here ]------------\n\
+kernel BUG at lib/list_debug.c:62!\n",
+            b"list_del corruption. prev->next should be 1, but was 2",
+        ),
+        (
+            b"usercopy: Kernel memory exposure attempt detected from SLUB object 'a' (offset 0, size 512)!\n\
+------------[ cut here ]------------\nkernel BUG at mm/usercopy.c:102!\n",
+            b"usercopy: Kernel memory exposure attempt detected from SLUB object 'a' (offset 0, size 512)!",
+        ),
+        // no message: a warning without one, another line above, a fault that has none
+        (
+            b"a\n------------[ cut here ]------------\nWARNING: CPU: 0 PID: 7 at a.c:28 c+0xba/0x110\n",
+            b"-",
+        ),
+        (
+            b"a\nb\nWARNING: CPU: 0 PID: 7 at a.c:28 c+0xba/0x110\n",
+            b"-",
+        ),
+        (
+            b"a\n------------[ cut here ]------------\nkernel BUG at a.c:1!\n",
+            b"-",
+        ),
+        (b"refcount_t: a\nb\nBUG: c\n", b"-"),
+    ] {
+        assert!(rt; has_message(text, wanted));
     }
 }

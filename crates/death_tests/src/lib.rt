@@ -14,4 +14,6 @@ mod lines_tests;
 #[cfg(test)]
 mod records;
 #[cfg(test)]
+mod signature_tests;
+#[cfg(test)]
 mod trace_tests;

@@ -11,6 +11,8 @@ abbrev pub keys : KeyTable
 keys = record {
   prefix = [];
   names = codes "total_size" ∷ codes "kmsg_size" ∷ codes "console_size" ∷ codes "pmsg_size" ∷ [];
+  choice = [];
+  choices = [];
 }
 
 -- the first faulty word among these, behind those

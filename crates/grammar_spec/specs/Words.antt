@@ -1,6 +1,6 @@
 -- Words `key=value` by a table of keys, and the first fault among them
 use Rattle.std.specs.Prelude.{◌≡◌, ℕ, Bool, true, ◌&&◌, not, if◌then◌else◌, ◌==◌, List, [], ◌∷◌, ◌++◌, length, drop}
-use Rattle.std.specs.Prelude.{map, bytes_eq, string_bytes, is_none, Option, Some, None, Result, Ok, Err}
+use Rattle.std.specs.Prelude.{map, bytes_eq, position, string_bytes, is_none, Option, Some, None, Result, Ok, Err}
 use Rattle.std.specs.Option.{option_and_then, option_map}
 use Rattle.std.specs.List.{list_any, find, before_first, after_first}
 use Rattle.std.specs.declared.string.String.{String}
@@ -9,10 +9,13 @@ use Rattle.grammar_spec.specs.declared.faults.ParamFault.{ParamFault}
 use Rattle.grammar_spec.specs.declared.faults.ParamFault.TheVariants.{UnknownKey, Twice, NotANumber}
 use Rattle.grammar_spec.specs.Numbers.{number_of, begins}
 
--- the keys that words may give, and the prefix that each may have
+-- the keys that words may give, and the prefix that each may have. The value of a key is a number, but for that of the
+-- key `choice`, which is one of these texts
 pub record KeyTable : Type 0 where
   pub prefix : List ℕ
   pub names : List (List ℕ)
+  pub choice : List ℕ
+  pub choices : List (List ℕ)
 
 -- what stands before the first `=`, without the prefix
 abbrev pub key_of : KeyTable → List ℕ → List ℕ
@@ -30,12 +33,17 @@ pub record IsSplit (table : KeyTable) (word name text : List ℕ) : Type 0 where
   pub named : key_of table word ≡ name
   pub valued : after_first (λ c. c == 61) word ≡ text
 
+-- the number that a value writes; of a choice, its place among the choices
+abbrev pub value_of : KeyTable → List ℕ → List ℕ → Option ℕ
+value_of table key text =
+    if bytes_eq key table.choice then position (λ choice. bytes_eq choice text) table.choices else number_of text
+
 -- what is wrong with a word at this place, behind these
 abbrev pub word_fault : KeyTable → List (List ℕ) → ℕ → List ℕ → Option ParamFault
 word_fault table earlier place word =
     if not (list_any (λ key. has_key table key word) table.names) then Some (UnknownKey place)
     else if list_any (has_key table (key_of table word)) earlier then Some (Twice place)
-    else if is_none (number_of (after_first (λ c. c == 61) word)) then Some (NotANumber place)
+    else if is_none (value_of table (key_of table word) (after_first (λ c. c == 61) word)) then Some (NotANumber place)
     else None
 
 abbrev pub either : Option ParamFault → Option ParamFault → Option ParamFault
@@ -53,7 +61,7 @@ unfoldable pub value_text : KeyTable → List (List ℕ) → List ℕ → Option
 value_text table words key = option_map (after_first (λ c. c == 61)) (find (has_key table key) words)
 
 unfoldable pub given : KeyTable → List (List ℕ) → List ℕ → Option ℕ
-given table words key = option_and_then number_of (value_text table words key)
+given table words key = option_and_then (value_of table key) (value_text table words key)
 
 -- what is read, or the fault
 abbrev pub ok_unless : {A : Type 0} → Option ParamFault → A → Result A ParamFault

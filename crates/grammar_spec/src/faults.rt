@@ -13,7 +13,7 @@ pub enum ParamFault {
     /// The key stood before.
     #[error("word {0} repeats a key")]
     Twice(u32),
-    /// The value is not a number below 2^32.
+    /// The value is not a number below 2^32; of `order`, no order of zones.
     #[error("word {0} has no number")]
     NotANumber(u32),
 }

@@ -1,8 +1,8 @@
 -- The best so far
-use Rattle.std.proofs.Common.{◌≡◌, ℕ, ◌+◌, ◌<◌, ◌≤◌, Bool, true, false, ◌&&◌, ◌||◌, ◌==◌, nat_lt, if◌then◌else◌, List}
+use Rattle.std.proofs.Common.{◌≡◌, ℕ, zero, suc, ◌+◌, ◌<◌, ◌≤◌, Bool, true, false, ◌&&◌, ◌||◌, ◌==◌, nat_lt, if◌then◌else◌, List}
 use Rattle.std.proofs.Common.{[], ◌∷◌, length, get_or, Option, Some, None, refl, sym, ap, ◌∙◌, subst, arith, true≢false}
 use Rattle.std.proofs.Common.{below_more, take, ◌⊎◌, inl, inr}
-use Rattle.std.specs.Prelude.{MatchOption, unwrap_or}
+use Rattle.std.specs.Prelude.{MatchOption, unwrap_or, option_map}
 use Rattle.std.specs.Prelude.{nat_le, sum_by}
 use Rattle.std.proofs.lemmas.Bool.{and_parts, or_parts, false_from_ne_true, ltb-false, le-leb, lt-leb, eqb-false}
 use Rattle.std.proofs.lemmas.Bool.{eqb-true}
@@ -11,10 +11,12 @@ use Rattle.layout_spec.specs.declared.Known.{Known}
 use Rattle.layout_spec.specs.Laid.{params_of, zones_of, has_layout}
 use Rattle.layout_spec.specs.Order.{is_before, faults}
 use Rattle.layout_spec.specs.Family.{is_of_family, is_chosen, is_one_of, tags_for, known_or, parities, cpus_for, sizes}
-use Rattle.layout_spec.specs.Family.{memories, is_shape, is_told_once}
-use Rattle.layout_search.specs.Levels.{Over, IsListed, after, levels_from, next, values, having}
+use Rattle.layout_spec.specs.Family.{memories, is_shape, is_told_once, order_number, orders_for}
+use Rattle.zone_spec.specs.declared.params.Order.{Order as ZoneOrder}
+use Rattle.zone_spec.specs.declared.params.Order.TheVariants.{FtracePmsg, PmsgFtrace}
+use Rattle.layout_search.specs.Levels.{Over, IsListed, after, levels_from, next, values, having, order_of}
 use Rattle.layout_search.specs.declared.levels.Level.{Level}
-use Rattle.layout_search.specs.declared.levels.Level.TheVariants.{Mem, Dump, Console, Ftrace, Pmsg, Cpus, Parity}
+use Rattle.layout_search.specs.declared.levels.Level.TheVariants.{Mem, Dump, Console, Ftrace, Pmsg, Order, Cpus, Parity}
 use Rattle.layout_search.specs.Walked.{OverBefore, is_walked, all_levels, word, count_of, counted, nowhere}
 use Rattle.layout_search.specs.declared.levels.Reached.{Reached}
 use Rattle.layout_search.specs.Placed.{IsPlaced, IsPassed}
@@ -23,12 +25,12 @@ use Rattle.layout_search.specs.Rows.{dump_row_of, console_row_of, ftrace_row_of,
 use Rattle.layout_search.proofs.CandidateFaults.{cpus_bad}
 use Rattle.zone_spec.specs.declared.params.Params.{Params}
 use Rattle.zone_spec.specs.declared.params.Row.{Row}
-use Rattle.zone_spec.specs.Layout.{rounded, zones_from}
+use Rattle.zone_spec.specs.Layout.{rounded, zones_from, ordered}
 use Rattle.layout_search.specs.declared.progress.Best.{Best}
 use Rattle.layout_search.specs.declared.progress.Progress.{Progress}
 use Rattle.layout_search.specs.declared.progress.Aim.{Aim}
 use Rattle.layout_search.proofs.Keys.{not_before}
-use Rattle.layout_search.proofs.Members.{member_at, place_of, place_before}
+use Rattle.layout_search.proofs.Members.{member_at, place_of, place_before, member_le}
 
 abbrev count_rows : List Row → ℕ
 count_rows rows = sum_by (λ (row : Row). row.count) rows
@@ -143,13 +145,14 @@ after_next Dump = refl
 after_next Console = refl
 after_next Ftrace = refl
 after_next Pmsg = refl
+after_next Order = refl
 after_next Cpus = refl
 after_next Parity = refl
 
 -- a word that was not tried yet changes nothing of what is known
-placed_with : (known : Known) (len : ℕ) (c : Candidate) (n r : ℕ) → IsPlaced known len c
-    → IsPlaced known len (record c { cpus = n; parity = r })
-placed_with known len c n r h = record {
+placed_with : (known : Known) (len : ℕ) (c : Candidate) (o : ZoneOrder) (n r : ℕ) → IsPlaced known len c
+    → IsPlaced known len (record c { order = o; cpus = n; parity = r })
+placed_with known len c o n r h = record {
   told = h.told;
   within = h.within;
   roomy = record {
@@ -167,9 +170,10 @@ passed_with Dump known len c n h = h
 passed_with Console known len c n h = h
 passed_with Ftrace known len c n h = h
 passed_with Pmsg known len c n h = h
-passed_with Cpus known len c n h = placed_with known len c n c.parity h
+passed_with Order known len c n h = placed_with known len c (order_of n) c.cpus c.parity h
+passed_with Cpus known len c n h = placed_with known len c c.order n c.parity h
 passed_with Parity known len c n h = record {
-  placed = placed_with known len c c.cpus n h.placed;
+  placed = placed_with known len c c.order c.cpus n h.placed;
   some = h.some;
   few = h.few;
 }
@@ -230,6 +234,7 @@ count_nowhere Dump = refl
 count_nowhere Console = refl
 count_nowhere Ftrace = refl
 count_nowhere Pmsg = refl
+count_nowhere Order = refl
 count_nowhere Cpus = refl
 count_nowhere Parity = refl
 
@@ -239,6 +244,7 @@ count_counted Dump r n = refl
 count_counted Console r n = refl
 count_counted Ftrace r n = refl
 count_counted Pmsg r n = refl
+count_counted Order r n = refl
 count_counted Cpus r n = refl
 count_counted Parity r n = refl
 
@@ -249,11 +255,12 @@ Same (level ∷ levels) a b = (count_of level a ≡ count_of level b) × Same le
 
 same_after : (level : Level) (r : Reached) (n : ℕ) → Same (after level) (counted level r n) r
 unfolding Same
-same_after Mem r n = (refl, (refl, (refl, (refl, (refl, (refl, tt))))))
-same_after Dump r n = (refl, (refl, (refl, (refl, (refl, tt)))))
-same_after Console r n = (refl, (refl, (refl, (refl, tt))))
-same_after Ftrace r n = (refl, (refl, (refl, tt)))
-same_after Pmsg r n = (refl, (refl, tt))
+same_after Mem r n = (refl, (refl, (refl, (refl, (refl, (refl, (refl, tt)))))))
+same_after Dump r n = (refl, (refl, (refl, (refl, (refl, (refl, tt))))))
+same_after Console r n = (refl, (refl, (refl, (refl, (refl, tt)))))
+same_after Ftrace r n = (refl, (refl, (refl, (refl, tt))))
+same_after Pmsg r n = (refl, (refl, (refl, tt)))
+same_after Order r n = (refl, (refl, tt))
 same_after Cpus r n = (refl, tt)
 same_after Parity r n = tt
 
@@ -341,67 +348,79 @@ chosen_in : (known : Known) (image : List ℕ) (c : Candidate) → is_of_family 
 unfolding is_of_family
 chosen_in known image c h = (and_parts (is_chosen known (length image) c) _ (and_parts _ (has_layout c) h).0).0
 
--- ((((shape && told) && within) && cpus) && parity)
+-- (((((shape && told) && within) && order) && cpus) && parity)
 pub record AreParts (known : Known) (len : ℕ) (c : Candidate) : Type 0 where
   pub shape : is_shape known len c ≡ true
   pub told : is_told_once known len c ≡ true
   pub within : nat_le c.mem len ≡ true
+  pub order : is_one_of (order_number c.order) (orders_for known c) ≡ true
   pub cpus : is_one_of c.cpus (cpus_for known c.ftrace) ≡ true
   pub parity : is_one_of c.parity (known_or known.parity parities) ≡ true
 
-parts_in : (known : Known) (image : List ℕ) (c : Candidate) → is_of_family known image c ≡ true
+pub parts_in : (known : Known) (image : List ℕ) (c : Candidate) → is_of_family known image c ≡ true
     → AreParts known (length image) c
 unfolding is_chosen
 parts_in known image c h =
     let len = length image in
     let r = and_parts _ (is_one_of c.parity (known_or known.parity parities)) (chosen_in known image c h) in
     let n = and_parts _ (is_one_of c.cpus (cpus_for known c.ftrace)) r.0 in
-    let w = and_parts _ (nat_le c.mem len) n.0 in
+    let o = and_parts _ (is_one_of (order_number c.order) (orders_for known c)) n.0 in
+    let w = and_parts _ (nat_le c.mem len) o.0 in
     let t = and_parts (is_shape known len c) (is_told_once known len c) w.0 in record {
       shape = t.0;
       told = t.1;
       within = w.1;
+      order = o.1;
       cpus = n.1;
       parity = r.1;
     }
 
-tag_in : (known : Known) (image : List ℕ) (c : Candidate) → is_of_family known image c ≡ true
+pub tag_in : (known : Known) (image : List ℕ) (c : Candidate) → is_of_family known image c ≡ true
     → is_one_of c.tag (tags_for known image c) ≡ true
 unfolding is_of_family
 tag_in known image c h = (and_parts (is_chosen known (length image) c) (is_one_of c.tag (tags_for known image c))
     (and_parts _ (has_layout c) h).0).1
 
--- whatever the processors, the parity and the tag
+-- whatever the order, the processors, the parity and the tag
 strange : (known : Known) (image : List ℕ) (aim : Aim) (c : Candidate) (s : Progress)
-    → ((n r t : ℕ) → is_of_family known image (record c { cpus = n; parity = r; tag = t }) ≡ true
-    → faults image (zones_of (record c { cpus = n; parity = r; tag = t })) ≤ aim.limit → ⊥)
-    → SettledOver known image aim (Cpus ∷ Parity ∷ []) c s
+    → ((o : ZoneOrder) (n r t : ℕ)
+    → is_of_family known image (record c { order = o; cpus = n; parity = r; tag = t }) ≡ true
+    → faults image (zones_of (record c { order = o; cpus = n; parity = r; tag = t })) ≤ aim.limit → ⊥)
+    → SettledOver known image aim (Order ∷ Cpus ∷ Parity ∷ []) c s
 unfolding Over
-strange known image aim c s never = λ n a r b. record {
-  all = λ t d. record { settled = λ family few other. absurd (never n r t family few) };
+strange known image aim c s never = λ u e n a r b. record {
+  all = λ t d. record { settled = λ family few other. absurd (never (order_of u) n r t family few) };
 }
 
 pub not_told : (known : Known) (image : List ℕ) (aim : Aim) (c : Candidate) (s : Progress)
-    → is_told_once known (length image) c ≡ false → SettledOver known image aim (Cpus ∷ Parity ∷ []) c s
-not_told known image aim c s e = strange known image aim c s (λ n r t family few.
-    absurd (true≢false (sym (parts_in known image (record c { cpus = n; parity = r; tag = t }) family).told ∙ e)))
+    → is_told_once known (length image) c ≡ false → SettledOver known image aim (Order ∷ Cpus ∷ Parity ∷ []) c s
+not_told known image aim c s e = strange known image aim c s (λ o n r t family few.
+    absurd (true≢false (sym (parts_in known image (record c { order = o; cpus = n; parity = r; tag = t }) family).told ∙ e)))
 
 pub not_within : (known : Known) (image : List ℕ) (aim : Aim) (c : Candidate) (s : Progress)
-    → nat_le c.mem (length image) ≡ false → SettledOver known image aim (Cpus ∷ Parity ∷ []) c s
-not_within known image aim c s e = strange known image aim c s (λ n r t family few.
-    absurd (true≢false (sym (parts_in known image (record c { cpus = n; parity = r; tag = t }) family).within ∙ e)))
+    → nat_le c.mem (length image) ≡ false → SettledOver known image aim (Order ∷ Cpus ∷ Parity ∷ []) c s
+not_within known image aim c s e = strange known image aim c s (λ o n r t family few.
+    absurd (true≢false (sym (parts_in known image (record c { order = o; cpus = n; parity = r; tag = t }) family).within ∙ e)))
 
 pub without_room : (known : Known) (image : List ℕ) (aim : Aim) (c : Candidate) (s : Progress)
-    → ((n r t : ℕ) → has_layout (record c { cpus = n; parity = r; tag = t }) ≡ false)
-    → SettledOver known image aim (Cpus ∷ Parity ∷ []) c s
+    → ((o : ZoneOrder) (n r t : ℕ) → has_layout (record c { order = o; cpus = n; parity = r; tag = t }) ≡ false)
+    → SettledOver known image aim (Order ∷ Cpus ∷ Parity ∷ []) c s
 without_room known image aim c s e = strange known image aim c s
-    (λ n r t family few. absurd (true≢false
-    (sym (family_layout known image (record c { cpus = n; parity = r; tag = t }) family) ∙ e n r t)))
+    (λ o n r t family few. absurd (true≢false
+    (sym (family_layout known image (record c { order = o; cpus = n; parity = r; tag = t }) family) ∙ e o n r t)))
 
-few_rows : (c : Candidate) → c.cpus ≤ 64 → count_rows (ftrace_row_of c ∷ pmsg_row_of c ∷ []) ≤ 65
-few_rows c h = step (rounded c.ftrace == 0) (rounded c.pmsg == 0)
+count_ordered : (o : ZoneOrder) (a b : Row) → count_rows (ordered o a b) ≡ a.count + b.count
+count_ordered FtracePmsg a b = omega arith
+count_ordered PmsgFtrace a b = omega arith
+
+few_rows : (c : Candidate) → c.cpus ≤ 64 → count_rows (ordered c.order (ftrace_row_of c) (pmsg_row_of c)) ≤ 65
+few_rows c h = omega (
+  arith,
+  count_ordered c.order (ftrace_row_of c) (pmsg_row_of c),
+  step (rounded c.ftrace == 0) (rounded c.pmsg == 0),
+)
   where
-    step : (a b : Bool) → 0 + (if a then 0 else c.cpus) + (if b then 0 else 1) ≤ 65
+    step : (a b : Bool) → (if a then 0 else c.cpus) + (if b then 0 else 1) ≤ 65
     step true true = omega arith
     step true false = omega arith
     step false true = omega (arith, h)
@@ -411,19 +430,19 @@ few_rows c h = step (rounded c.ftrace == 0) (rounded c.pmsg == 0)
 pub bad_begin : (known : Known) (image : List ℕ) (aim : Aim) (c : Candidate) (s : Progress)
     → ((p : Params) (rest : List Row) → count_rows rest ≤ 65
     → aim.limit < faults image (zones_from p 0 (dump_row_of c ∷ console_row_of c ∷ rest)))
-    → SettledOver known image aim (Cpus ∷ Parity ∷ []) c s
-bad_begin known image aim c s far = strange known image aim c s (λ n r t family few.
-    let d : Candidate = record c { cpus = n; parity = r; tag = t } in
+    → SettledOver known image aim (Order ∷ Cpus ∷ Parity ∷ []) c s
+bad_begin known image aim c s far = strange known image aim c s (λ o n r t family few.
+    let d : Candidate = record c { order = o; cpus = n; parity = r; tag = t } in
     let good : ((d.cpus == 0) || nat_lt 64 d.cpus) ≡ false = false_from_ne_true ((d.cpus == 0) || nat_lt 64 d.cpus)
     (λ bad. true≢false (sym (family_layout known image d family) ∙ cpus_bad d bad)) in
     let at_most : d.cpus ≤ 64 = ltb-false _ _ (or_parts (d.cpus == 0) (nat_lt 64 d.cpus) good).1 in
-    let h : aim.limit < faults image (zones_of d) = far (params_of d) (ftrace_row_of d ∷ pmsg_row_of d ∷ [])
+    let h : aim.limit < faults image (zones_of d) = far (params_of d) (ordered o (ftrace_row_of d) (pmsg_row_of d))
     (few_rows d at_most) in omega (arith, h, few))
 
 -- all zones together have
 pub bad_rows : (known : Known) (image : List ℕ) (aim : Aim) (c : Candidate) (s : Progress)
     → ((p : Params) → aim.limit < faults image
-    (zones_from p 0 (dump_row_of c ∷ console_row_of c ∷ ftrace_row_of c ∷ pmsg_row_of c ∷ [])))
+    (zones_from p 0 (dump_row_of c ∷ console_row_of c ∷ ordered c.order (ftrace_row_of c) (pmsg_row_of c))))
     → SettledOver known image aim (Parity ∷ []) c s
 unfolding Over
 bad_rows known image aim c s far = λ r b. record {
@@ -456,7 +475,7 @@ good_cpus n h =
 
 -- ---- all of the family
 
-both : (a b : Bool) → a ≡ true → b ≡ true → (a && b) ≡ true
+pub both : (a b : Bool) → a ≡ true → b ≡ true → (a && b) ≡ true
 both a b p q = ap (λ x. x && b) p ∙ q
 
 pub chosen_of : (known : Known) (len : ℕ) (c : Candidate) → IsListed known len c → IsPlaced known len c
@@ -464,14 +483,38 @@ pub chosen_of : (known : Known) (len : ℕ) (c : Candidate) → IsListed known l
 unfolding is_chosen
 chosen_of known len c listed placed =
     let r = and_parts _ (is_one_of c.parity (known_or known.parity parities)) listed in
-    let n = and_parts (is_shape known len c) (is_one_of c.cpus (cpus_for known c.ftrace)) r.0 in
-    both _ _ (both _ _ (both _ _ (both _ _ n.0 placed.told) (le-leb c.mem len placed.within)) n.1) r.1
+    let n = and_parts _ (is_one_of c.cpus (cpus_for known c.ftrace)) r.0 in
+    let o = and_parts (is_shape known len c) (is_one_of (order_number c.order) (orders_for known c)) n.0 in
+    both _ _ (both _ _ (both _ _ (both _ _ (both _ _ o.0 placed.told) (le-leb c.mem len placed.within)) o.1) n.1) r.1
+
+few_orders : (k : Option ZoneOrder) (b : Bool) (n : ℕ)
+    → is_one_of n (known_or (option_map order_number k) (if b then 0 ∷ [] else 0 ∷ 1 ∷ [])) ≡ true → n ≤ 1
+few_orders None true n h = member_le (0 ∷ []) n 1 refl h
+few_orders None false n h = member_le (0 ∷ 1 ∷ []) n 1 refl h
+few_orders (Some FtracePmsg) b n h = member_le (0 ∷ []) n 1 refl h
+few_orders (Some PmsgFtrace) b n h = member_le (1 ∷ []) n 1 refl h
+
+number_back : (n : ℕ) → n ≤ 1 → order_number (order_of n) ≡ n
+number_back zero h = refl
+number_back (suc zero) h = refl
+number_back (suc (suc n)) h = absurd (omega (arith, h))
+
+order_back : (o : ZoneOrder) → order_of (order_number o) ≡ o
+order_back FtracePmsg = refl
+order_back PmsgFtrace = refl
+
+-- a number of the list is that of its order
+order_listed : (known : Known) (c : Candidate) (n : ℕ) → is_one_of n (orders_for known c) ≡ true
+    → is_one_of (order_number (order_of n)) (orders_for known c) ≡ true
+order_listed known c n h = subst (λ m. is_one_of m (orders_for known c) ≡ true)
+    (sym (number_back n (few_orders known.order ((c.ftrace == 0) || (c.pmsg == 0)) n h))) h
 
 pub start_listed : (known : Known) (len : ℕ) (start : Candidate)
     → Over known len (levels_from (Some Mem)) (IsListed known len) start
 unfolding Over
-start_listed known len start = λ m a d b o c f e p g n h r i.
-    both _ _ (both _ _ (both _ _ (both _ _ (both _ _ (both _ _ a b) c) e) g) h) i
+start_listed known len start = λ m a d b o c f e p g u j n h r i.
+    let order = order_listed known (record start { mem = m; dump = d; console = o; ftrace = f; pmsg = p }) u j in
+    both _ _ (both _ _ (both _ _ (both _ _ (both _ _ (both _ _ (both _ _ a b) c) e) g) order) h) i
 
 pub all_settled : (known : Known) (image : List ℕ) (aim : Aim) (start : Candidate) (s : Progress)
     → SettledOver known image aim (levels_from (Some Mem)) start s → (c : Candidate) → IsSettled known image aim c s
@@ -485,9 +528,12 @@ all_settled known image aim start s h c = record {
       let o = and_parts _ (is_one_of c.console (known_or known.console (sizes len))) f.0 in
       let d = and_parts (is_one_of c.mem (known_or known.mem (memories len)))
       (is_one_of c.dump (known_or known.dump (sizes len))) o.0 in
-      let sized = h c.mem d.0 c.dump d.1 c.console o.1 c.ftrace f.1 c.pmsg p.1 in
-      let one = (sized c.cpus parts.cpus c.parity parts.parity).all c.tag (tag_in known image c family) in
-      one.settled family few other;
+      let sized = h c.mem d.0 c.dump d.1 c.console o.1 c.ftrace f.1 c.pmsg p.1 (order_number c.order) parts.order
+      c.cpus parts.cpus c.parity parts.parity in
+      let tags : TagsSettled known image aim s (record c { tag = start.tag }) =
+      subst (λ (o : ZoneOrder). TagsSettled known image aim s (record c { order = o; tag = start.tag }))
+      (order_back c.order) sized in
+      (tags.all c.tag (tag_in known image c family)).settled family few other;
 }
 
 pub walked_settled : (known : Known) (image : List ℕ) (aim : Aim) (start : Candidate) (s : Progress) (r : Reached)
@@ -510,30 +556,39 @@ walked_settled known image aim start s r h c walked = record {
       let c3 : Candidate = record c2 { console = c.console } in
       let c4 : Candidate = record c3 { ftrace = c.ftrace } in
       let c5 : Candidate = record c4 { pmsg = c.pmsg } in
-      let c6 : Candidate = record c5 { cpus = c.cpus } in
-      let tags : TagsSettled known image aim s (record c { tag = start.tag }) = elim (split_word known len Q Mem
+      let u = order_number c.order in
+      let c6 : Candidate = record c5 { order = order_of u } in
+      let c7 : Candidate = record c6 { cpus = c.cpus } in
+      let found : TagsSettled known image aim s (record c { order = order_of u; tag = start.tag }) = elim (split_word known len Q Mem
       (after Mem) r start c refl h walked) [
-        | inl k ↦ k c.dump d.1 c.console o.1 c.ftrace f.1 c.pmsg p.1 c.cpus parts.cpus c.parity parts.parity
+        | inl k ↦ k c.dump d.1 c.console o.1 c.ftrace f.1 c.pmsg p.1 u parts.order c.cpus parts.cpus c.parity parts.parity
         | inr k ↦ elim (split_word known len Q Dump (after Dump) r c1 c refl k.0 k.1) [
-          | inl k ↦ k c.console o.1 c.ftrace f.1 c.pmsg p.1 c.cpus parts.cpus c.parity parts.parity
+          | inl k ↦ k c.console o.1 c.ftrace f.1 c.pmsg p.1 u parts.order c.cpus parts.cpus c.parity parts.parity
           | inr k ↦ elim (split_word known len Q Console (after Console) r c2 c refl k.0 k.1) [
-            | inl k ↦ k c.ftrace f.1 c.pmsg p.1 c.cpus parts.cpus c.parity parts.parity
+            | inl k ↦ k c.ftrace f.1 c.pmsg p.1 u parts.order c.cpus parts.cpus c.parity parts.parity
             | inr k ↦ elim (split_word known len Q Ftrace (after Ftrace) r c3 c refl k.0 k.1) [
-              | inl k ↦ k c.pmsg p.1 c.cpus parts.cpus c.parity parts.parity
+              | inl k ↦ k c.pmsg p.1 u parts.order c.cpus parts.cpus c.parity parts.parity
               | inr k ↦ elim (split_word known len Q Pmsg (after Pmsg) r c4 c refl k.0 k.1) [
-                | inl k ↦ k c.cpus parts.cpus c.parity parts.parity
-                | inr k ↦ elim (split_word known len Q Cpus (after Cpus) r c5 c refl k.0 k.1) [
-                  | inl k ↦ k c.parity parts.parity
-                  | inr k ↦ elim (split_word known len Q Parity (after Parity) r c6 c refl k.0 k.1) [
-                    | inl k ↦ k
-                    | inr k ↦ absurd (true≢false (sym k.1))
+                | inl k ↦ k u parts.order c.cpus parts.cpus c.parity parts.parity
+                | inr k ↦ elim (split_word known len Q Order (after Order) r c5 c refl k.0 k.1) [
+                  | inl k ↦ k c.cpus parts.cpus c.parity parts.parity
+                  | inr k ↦ elim (split_word known len Q Cpus (after Cpus) r c6 c refl k.0 k.1) [
+                    | inl k ↦ k c.parity parts.parity
+                    | inr k ↦ elim (split_word known len Q Parity (after Parity) r c7 c refl k.0 k.1) [
+                      | inl k ↦ k
+                      | inr k ↦ absurd (true≢false (sym k.1))
+                    ]
                   ]
                 ]
               ]
             ]
           ]
         ]
-      ] in (tags.all c.tag t).settled family few other;
+      ] in
+      let tags : TagsSettled known image aim s (record c { tag = start.tag }) =
+      subst (λ (o : ZoneOrder). TagsSettled known image aim s (record c { order = o; tag = start.tag }))
+      (order_back c.order) found in
+      (tags.all c.tag t).settled family few other;
 }
 
 pub part_settled : (known : Known) (image : List ℕ) (aim : Aim) (start : Candidate) (s : Progress)

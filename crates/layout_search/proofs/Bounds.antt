@@ -7,7 +7,9 @@ use Rattle.std.proofs.lemmas.List.Sums.{sum_by-append, sum_by-cons}
 use Rattle.zone_spec.specs.declared.Zone.{Zone}
 use Rattle.zone_spec.specs.declared.params.Params.{Params}
 use Rattle.zone_spec.specs.declared.params.Row.{Row}
-use Rattle.zone_spec.specs.Layout.{zone_at, zones_from}
+use Rattle.zone_spec.specs.declared.params.Order.{Order}
+use Rattle.zone_spec.specs.declared.params.Order.TheVariants.{FtracePmsg, PmsgFtrace}
+use Rattle.zone_spec.specs.Layout.{zone_at, zones_from, ordered}
 use Rattle.layout_spec.specs.Marks.{fits, is_mark, marks, seems_to_begin}
 use Rattle.layout_spec.specs.Order.{misses, faults}
 use Rattle.layout_search.specs.Seen.{far_in, marked_in, row_end}
@@ -170,3 +172,10 @@ first_counts image p a b c d some h =
     subst (λ n. 1 ≤ misses image (map (λ i. zone_at p a.kind a.size i (0 + i * a.size)) (range_with_len 0 n) ++ rest))
     (sym next) (first_of image p a (a.count - 1) rest h) in
     omega (arith, one, marked_le image p 0 (a ∷ b ∷ c ∷ d ∷ []), few_four image a b c d)
+
+-- the same with the last two in either order
+pub first_ordered : (image : List ℕ) (p : Params) (order : Order) (a b c d : Row) → 0 < a.count
+    → fits image (zone_at p a.kind a.size 0 (0 + 0 * a.size)) ≡ false
+    → 1 + (marks image - (a.count + b.count + c.count + d.count)) ≤ faults image (zones_from p 0 (a ∷ b ∷ ordered order c d))
+first_ordered image p FtracePmsg a b c d some h = first_counts image p a b c d some h
+first_ordered image p PmsgFtrace a b c d some h = omega (arith, first_counts image p a b d c some h)

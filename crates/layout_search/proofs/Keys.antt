@@ -1,8 +1,8 @@
 -- The order of keys
-use Rattle.std.proofs.Common.{◌≡◌, ◌≢◌, ℕ, suc, ◌+◌, ◌<◌, Bool, true, false, ◌&&◌, ◌||◌, ◌==◌, nat_lt, List, [], ◌∷◌}
+use Rattle.std.proofs.Common.{◌≡◌, ◌≢◌, ℕ, suc, ◌+◌, ◌<◌, ◌≤◌, Bool, true, false, ◌&&◌, ◌||◌, ◌==◌, nat_lt, List, [], ◌∷◌}
 use Rattle.std.proofs.Common.{length, drop, get_or, refl, sym, ap, ◌∙◌, arith, add-one, drop-cons, ◌⊎◌, inl, inr}
 use Rattle.std.proofs.Common.{true≢false, eqb-true}
-use Rattle.std.proofs.lemmas.Bool.{ltb-true, lt-ltb, and_parts, false_from_ne_true}
+use Rattle.std.proofs.lemmas.Bool.{ltb-true, ltb-false, lt-ltb, and_parts, false_from_ne_true}
 use Rattle.std.proofs.lemmas.Bool.Decides.{nat_tests}
 use Rattle.layout_spec.specs.Order.{is_before}
 
@@ -87,3 +87,34 @@ not_before k c b h n = false_from_ne_true (is_before k c) (λ e. true≢false (s
 pub front_decides : (x y : ℕ) (xs ys : List ℕ) → y < x → is_before (x ∷ xs) (y ∷ ys) ≡ false
 front_decides x y xs ys h = first_before x y xs ys (λ e. absurd (omega (arith, e, h)))
     ∙ false_from_ne_true (nat_lt x y) (λ e. absurd (omega (arith, ltb-true x y e, h)))
+
+-- with the one behind not in front of the other, what is before the other is before the one behind
+pub before_not_before : (k a b : List ℕ) → is_before k b ≡ true → is_before a b ≡ false → is_before k a ≡ true
+unfolding is_before
+before_not_before k a [] h n = absurd (true≢false (sym h))
+before_not_before k [] (y ∷ ys) h n = absurd (true≢false n)
+before_not_before [] (z ∷ zs) (y ∷ ys) h n = refl
+before_not_before (x ∷ xs) (z ∷ zs) (y ∷ ys) h n =
+    step (split x y xs ys h) (at_least (nat_lt z y) refl)
+    (λ e r. before_not_before xs zs ys r (sym (same_before z y zs ys e) ∙ n))
+  where
+    at_least : (b : Bool) → nat_lt z y ≡ b → y ≤ z
+    at_least true e = absurd (true≢false (sym (less_before z y zs ys (ltb-true z y e)) ∙ n))
+    at_least false e = ltb-false z y e
+
+    same : (b : Bool) → nat_lt x z ≡ b → x ≡ y → y ≤ z → (z ≡ y → is_before xs zs ≡ true)
+        → is_before (x ∷ xs) (z ∷ zs) ≡ true
+    same true e p le rest = less_before x z xs zs (ltb-true x z e)
+    same false e p le rest =
+        let most : z ≤ x = ltb-false x z e in
+        same_before x z xs zs (omega (arith, p, le, most)) ∙ rest (omega (arith, p, le, most))
+
+    step : (x < y) ⊎ ((x ≡ y) × (is_before xs ys ≡ true)) → y ≤ z
+        → (z ≡ y → is_before xs ys ≡ true → is_before xs zs ≡ true) → is_before (x ∷ xs) (z ∷ zs) ≡ true
+    step (inl p) le rest = less_before x z xs zs (omega (arith, p, le))
+    step (inr p) le rest = same (nat_lt x z) refl p.0 le (λ e. rest e p.1)
+
+-- so what is not before the one is not before the other
+pub not_before_other : (k a b : List ℕ) → is_before a b ≡ false → is_before k a ≡ false → is_before k b ≡ false
+not_before_other k a b n h =
+    false_from_ne_true (is_before k b) (λ e. true≢false (sym (before_not_before k a b e n) ∙ h))

@@ -11,4 +11,5 @@ pub mod ZonesInImage
 pub mod BestSoFar
 pub mod Tags
 pub mod Members
+pub mod Usual
 pub mod SearchAnswers

@@ -1,6 +1,9 @@
 -- Members of lists of numbers
-use Rattle.std.proofs.Common.{◌≡◌, ℕ, zero, suc, ◌<◌, Bool, true, false, ◌||◌, ◌==◌, List, [], ◌∷◌, length, get_or, take}
+use Rattle.std.proofs.Common.{◌≡◌, ℕ, zero, suc, ◌<◌, ◌≤◌, Bool, true, false, ◌||◌, ◌==◌, List, [], ◌∷◌, length, get_or, take}
 use Rattle.std.proofs.Common.{refl, sym, ap, ◌∙◌, arith, true≢false, eqb-true}
+use Rattle.std.specs.Prelude.{nat_le}
+use Rattle.std.specs.List.{list_all}
+use Rattle.std.proofs.lemmas.Bool.{and_parts, leb-true}
 use Rattle.std.proofs.lemmas.Bool.Decides.{nat_tests}
 use Rattle.layout_spec.specs.Family.{is_one_of}
 
@@ -48,3 +51,15 @@ place_before (suc k) (y ∷ ys) x h = step (x == y) refl h (place_before k ys x)
     step true e w rest = record { place = 0; before = omega arith; here = sym (eqb-true x y e) }
     step false e w rest =
         let at = rest w in record { place = suc at.place; before = omega (arith, at.before); here = at.here }
+
+-- a member is at most what all members are
+pub member_le : (xs : List ℕ) (x most : ℕ) → list_all (λ y. nat_le y most) xs ≡ true → is_one_of x xs ≡ true → x ≤ most
+member_le [] x most all h = absurd (true≢false (sym h))
+member_le (y ∷ ys) x most all h =
+    let parts = and_parts (nat_le y most) (list_all (λ y. nat_le y most) ys) all in
+    step (x == y) refl h (member_le ys x most parts.1) (leb-true y most parts.0)
+  where
+    step : (b : Bool) → (x == y) ≡ b → (b || is_one_of x ys) ≡ true → (is_one_of x ys ≡ true → x ≤ most) → y ≤ most
+        → x ≤ most
+    step true e k rest le = omega (arith, eqb-true x y e, le)
+    step false e k rest le = rest k

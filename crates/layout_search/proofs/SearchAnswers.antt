@@ -1,7 +1,7 @@
 -- What a search answers
 use Rattle.std.proofs.Common.{◌≡◌, ◌≢◌, ℕ, ◌<◌, ◌≤◌, ◌+◌, ◌^◌, Bool, true, false, List, length, Result, Ok, Err, Option}
-use Rattle.std.proofs.Common.{Some, None, refl, sym, ap, ◌∙◌, arith, true≢false}
-use Rattle.std.specs.Prelude.{option_map, MatchOption, nat_le, not, is_ok}
+use Rattle.std.proofs.Common.{Some, None, refl, sym, ap, ◌∙◌, arith, true≢false, subst, eqb-true, ◌||◌, ◌==◌, [], ◌∷◌}
+use Rattle.std.specs.Prelude.{option_map, MatchOption, nat_le, not, is_ok, is_some}
 use Rattle.std.proofs.lemmas.Bool.{leb-true, leb-false, false_from_ne_true}
 use Rattle.std.proofs.lemmas.List.Sums.{count_by-le-length}
 use Rattle.zone_spec.specs.declared.Zone.{Zone}
@@ -13,19 +13,21 @@ use Rattle.layout_spec.specs.declared.Known.{Known}
 use Rattle.layout_spec.specs.declared.Tally.{Tally}
 use Rattle.layout_spec.specs.Laid.{zones_of, params_of, has_layout}
 use Rattle.layout_spec.specs.Marks.{marks, fits}
-use Rattle.layout_spec.specs.Family.{is_of_family}
+use Rattle.layout_spec.specs.Family.{is_of_family, is_one_of}
 use Rattle.layout_spec.specs.Order.{faults, tally_of, key, key_by, is_before}
 use Rattle.layout_spec.specs.Taken.{is_taken}
 use Rattle.layout_search.specs.Tried.{IsKept, IsSound, IsSettled, IsBestSoFar, HasFew, HasMore, is_ahead}
 use Rattle.layout_search.specs.Answers.{IsAnswer, IsNext, IsAlone, IsEmpty, AreFaulty, MayGiveUp, is_narrow}
+use Rattle.layout_search.specs.Answers.{IsBestUsual, IsOnly, usual}
 use Rattle.layout_search.specs.declared.progress.Best.{Best}
 use Rattle.layout_search.specs.declared.progress.Progress.{Progress}
 use Rattle.layout_search.specs.declared.progress.Aim.{Aim}
 use Rattle.layout_search.specs.declared.progress.Effort.{Effort}
 use Rattle.layout_search.specs.declared.progress.Effort.TheVariants.{All}
-use Rattle.layout_search.proofs.Keys.{front_decides, less_before}
+use Rattle.layout_search.proofs.Keys.{front_decides, less_before, not_before_self}
 use Rattle.layout_search.proofs.LaidOut.{found_zones}
 use Rattle.layout_search.proofs.BestSoFar.{family_layout}
+use Rattle.layout_search.proofs.Usual.{usual_family, one_of_one}
 
 pub tally_faults : (image : List ℕ) (d : Candidate) → (tally_of image d).faults ≡ faults image (zones_of d)
 unfolding tally_of
@@ -156,27 +158,51 @@ done known image aim s sound all few settled d family = step (nat_le (faults ima
     step true e = (settled d).settled family (leb-true _ _ e) besides
     step false e = behind s.best sound few (leb-false _ _ e)
 
--- the answer that is not whole
-pub partly : (known : Known) (image : List ℕ) (b : Best) (rival : Option Candidate) (s : Progress)
-    → IsKept known image None b → MayGiveUp known image → s.best ≡ Some b → IsBestSoFar known image s
+-- no layout is before the only one
+only_first : (known : Known) (image : List ℕ) (b : Best) → IsKept known image None b
+    → ((d : Candidate) → is_of_family known image d ≡ true → b.candidate ≢ d → ⊥)
+    → (d : Candidate) → is_of_family known image d ≡ true → is_before (key image d) b.key ≡ false
+only_first known image b kept only d family = false_from_ne_true (is_before (key image d) b.key)
+    (λ before. only d family (λ (same : b.candidate ≡ d). true≢false (sym before
+    ∙ (ap (λ k. is_before (key image d) k) (kept.key_is ∙ ap (key image) same) ∙ not_before_self (key image d)))))
+
+pub of_not : (o : Bool) → not o ≡ true → o ≡ false
+of_not true e = absurd (true≢false (sym e))
+of_not false e = refl
+
+pub not_only : (o : Bool) (P : Type 0) → (o ≡ true → P → ⊥) → P → not o ≡ true
+not_only true P h p = absurd (h refl p)
+not_only false P h p = refl
+
+-- the answer of a search that gave up, whose best was then compared with the usual layouts
+pub partly : (known : Known) (image : List ℕ) (old b : Best) (o : Bool) (s : Progress)
+    → IsKept known image None b → MayGiveUp known image → s.best ≡ Some old → IsBestSoFar known image s
+    → ((k : List ℕ) → is_before k old.key ≡ false → is_before k b.key ≡ false)
+    → (length image ≤ 2 ^ 20 → IsBestUsual known image b.candidate)
+    → (o ≡ true → IsOnly known image b.candidate → ⊥)
+    → (o ≡ false → (d : Candidate) → is_of_family known image d ≡ true → b.candidate ≢ d → ⊥)
     → IsAnswer known image (record {
       candidate = b.candidate;
       tally = b.tally;
       taken = is_taken b.tally;
-      rival = rival;
-      whole = false;
+      rival = None;
+      whole = not o;
       limit = s.limit;
       reached = s.reached;
     })
-partly known image b rival s kept given_up same so_far = record {
+partly known image old b o s kept given_up same so_far first usual other only = record {
   of_family = kept.of_family;
   tally_is = kept.tally_is;
   taken_is = ap is_taken kept.tally_is;
   part = λ e. given_up;
+  only = not_only o (IsOnly known image b.candidate) other;
+  best_usual = λ e small. usual small;
   so_far = λ e d family walked few. sym (ap (λ k. is_before (key image d) k) kept.key_is)
-      ∙ (sym (ap (λ (o : Option Best). is_ahead (key image d) o) same) ∙ so_far d family walked few);
-  first = λ e. absurd (true≢false (sym e));
-  next = λ e. absurd (true≢false (sym e));
+      ∙ first (key image d)
+      (sym (ap (λ (o : Option Best). is_ahead (key image d) o) same) ∙ so_far d family walked few);
+  first = λ e d family. sym (ap (λ k. is_before (key image d) k) kept.key_is)
+      ∙ only_first known image b kept (only (of_not o e)) d family;
+  next = λ e d family differs few. only (of_not o e) d family differs;
 }
 
 -- the next one, or that there is none
@@ -202,7 +228,7 @@ pub wholly : (known : Known) (image : List ℕ) (b : Best) (best : Option Best) 
     → IsSound known image (Some b.candidate) best
     → (whole ≡ true → (d : Candidate) → is_of_family known image d ≡ true → b.candidate ≢ d
     → faults image (zones_of d) ≤ b.tally.faults → is_ahead (key image d) best ≡ false)
-    → (whole ≡ false → MayGiveUp known image)
+    → (whole ≡ false → MayGiveUp known image) → (IsOnly known image b.candidate → whole ≡ true)
     → IsAnswer known image (record {
       candidate = b.candidate;
       tally = b.tally;
@@ -212,12 +238,77 @@ pub wholly : (known : Known) (image : List ℕ) (b : Best) (best : Option Best) 
       limit = s.limit;
       reached = s.reached;
     })
-wholly known image b best whole s kept first sound all part = record {
+wholly known image b best whole s kept first sound all part only = record {
   of_family = kept.of_family;
   tally_is = kept.tally_is;
   taken_is = ap is_taken kept.tally_is;
   part = part;
+  only = only;
+  best_usual = λ e small p two d family. sym (ap (λ k. is_before (key image d) k) kept.key_is)
+      ∙ first d (usual_family known image d p two family);
   so_far = λ e d family walked few. sym (ap (λ k. is_before (key image d) k) kept.key_is) ∙ first d family;
   first = λ e d family. sym (ap (λ k. is_before (key image d) k) kept.key_is) ∙ first d family;
   next = λ e. next_is known image b best kept sound (all e);
 }
+
+-- the usual layouts with more faults are behind the best that was there, and the others were tried
+pub usual_first : (known u : Known) (image : List ℕ) (best r : Best) (aim : Aim) (s : Progress)
+    → IsKept known image None best → aim.limit ≡ best.tally.faults → aim.besides ≡ None
+    → ((c : Candidate) → IsSettled u image aim c s)
+    → ((k : List ℕ) → is_before k best.key ≡ false → is_before k r.key ≡ false)
+    → ((k : List ℕ) → is_ahead k s.best ≡ false → is_before k r.key ≡ false)
+    → (d : Candidate) → is_of_family u image d ≡ true → is_before (key image d) r.key ≡ false
+usual_first known u image best r aim s kept limit none settled old new d family =
+    step (nat_le (faults image (zones_of d)) aim.limit) refl
+  where
+    besides : aim.besides ≢ Some d
+    besides e = let n : ◌≡◌ {A = Option Candidate} None (Some d) = sym none ∙ e in cc
+
+    step : (b : Bool) → nat_le (faults image (zones_of d)) aim.limit ≡ b → is_before (key image d) r.key ≡ false
+    step true e = new (key image d) ((settled d).settled family (leb-true _ _ e) besides)
+    step false e = old (key image d) (ap (λ k. is_before (key image d) k) kept.key_is
+        ∙ more_faults (tally_of image d) (tally_of image best.candidate) d best.candidate (omega (
+          arith,
+          leb-false _ _ e,
+          limit,
+          ap (λ (t : Tally). t.faults) kept.tally_is,
+          tally_faults image d,
+        )))
+
+-- a layout beside this one was found, so it is not the only one
+pub some_other : (known : Known) (image : List ℕ) (c : Candidate) (best : Option Best)
+    → IsSound known image (Some c) best → is_some best ≡ true → IsOnly known image c → ⊥
+some_other known image c None sound e only = true≢false (sym e)
+some_other known image c (Some b) sound e only = sound.other (ap Some (only b.candidate sound.of_family))
+
+none_of : (best : Option Best) → is_some best ≡ false → best ≡ None
+none_of None e = refl
+none_of (Some b) e = absurd (true≢false e)
+
+-- none was found though all were tried, so there is no other
+pub no_other : (known : Known) (image : List ℕ) (c : Candidate) (aim : Aim) (s : Progress) → aim.besides ≡ Some c
+    → aim.limit ≡ 2 ^ 62 + 2 ^ 32 → marks image < 2 ^ 62 → (s.best ≡ None → 0 < s.work)
+    → (0 < s.work → (d : Candidate) → IsSettled known image aim d s) → is_some s.best ≡ false
+    → (d : Candidate) → is_of_family known image d ≡ true → c ≢ d → ⊥
+no_other known image c aim s besides limit few work settled e d family differs =
+    let none : s.best ≡ None = none_of s.best e in
+    let ahead : is_ahead (key image d) s.best ≡ false = (settled (work none) d).settled family
+    (omega (arith, limit, few_faults known image d few family))
+    (λ same. let n : ◌≡◌ {A = Option Candidate} (Some c) (Some d) = sym besides ∙ same in differs cc) in
+    true≢false (sym (ap (λ (o : Option Best). is_ahead (key image d) o) none) ∙ ahead)
+
+-- both parities were tried, the second one beside what the first left
+pub both_usual : (known : Known) (image : List ℕ) (bare b : Best) → IsKept known image None b
+    → ((k : List ℕ) → is_before k bare.key ≡ false → is_before k b.key ≡ false)
+    → ((d : Candidate) → is_of_family (usual known 0) image d ≡ true → is_before (key image d) bare.key ≡ false)
+    → ((d : Candidate) → is_of_family (usual known 16) image d ≡ true → is_before (key image d) b.key ≡ false)
+    → IsBestUsual known image b.candidate
+both_usual known image bare b kept later first next parity two d family =
+    sym (ap (λ k. is_before (key image d) k) kept.key_is) ∙ step (parity == 0) refl two
+  where
+    step : (x : Bool) → (parity == 0) ≡ x → (x || is_one_of parity (16 ∷ [])) ≡ true
+        → is_before (key image d) b.key ≡ false
+    step true e w = later (key image d) (first d
+        (subst (λ (p : ℕ). is_of_family (usual known p) image d ≡ true) (eqb-true parity 0 e) family))
+    step false e w = next d
+        (subst (λ (p : ℕ). is_of_family (usual known p) image d ≡ true) (one_of_one parity 16 w) family)

@@ -1,8 +1,9 @@
 -- What a search answers
-use Rattle.std.specs.Prelude.{◌≡◌, ◌≢◌, ◌≤◌, ◌<◌, ℕ, Bool, true, false, ◌&&◌, is_some, List, length, Option, MatchOption}
+use Rattle.std.specs.Prelude.{◌≡◌, ◌≢◌, ◌≤◌, ◌<◌, ℕ, Bool, true, false, ◌&&◌, is_some, List, [], ◌∷◌, length, Option, MatchOption, Some, ◌^◌}
+use Rattle.std.specs.Prelude.{unwrap_or}
 use Rattle.layout_spec.specs.declared.Candidate.{Candidate}
 use Rattle.layout_spec.specs.declared.Known.{Known}
-use Rattle.layout_spec.specs.Family.{is_of_family}
+use Rattle.layout_spec.specs.Family.{is_of_family, is_one_of}
 use Rattle.layout_spec.specs.Laid.{zones_of}
 use Rattle.layout_spec.specs.Order.{faults, tally_of, key, is_before}
 use Rattle.layout_spec.specs.Taken.{is_taken}
@@ -40,6 +41,24 @@ pub record MayGiveUp (known : Known) (image : List ℕ) : Type 0 where
   pub wide : is_narrow known ≡ false
   pub faulty : AreFaulty known image 1
 
+-- what is known, and for the rest what kernels have by default: so many parity bytes, and one ftrace zone
+abbrev pub usual : Known → ℕ → Known
+usual known parity = record known {
+  parity = Some (unwrap_or known.parity parity);
+  cpus = Some (unwrap_or known.cpus 1);
+}
+
+-- no layout without parity is before it, none with 16 bytes of parity, and none with the parity that is known, if it has
+-- as many ftrace zones as are known, or one
+abbrev pub IsBestUsual : Known → List ℕ → Candidate → Type 0
+IsBestUsual known image c =
+    (parity : ℕ) → is_one_of parity (0 ∷ 16 ∷ []) ≡ true → (d : Candidate)
+    → is_of_family (usual known parity) image d ≡ true → is_before (key image d) (key image c) ≡ false
+
+-- it is the only layout of the family
+abbrev pub IsOnly : Known → List ℕ → Candidate → Type 0
+IsOnly known image c = (d : Candidate) → is_of_family known image d ≡ true → c ≡ d
+
 -- of the layouts that the walk came by, none with at most so many faults is before the answer
 abbrev pub IsBestWalked : Known → List ℕ → Found → Type 0
 IsBestWalked known image f =
@@ -51,6 +70,8 @@ pub record IsAnswer (known : Known) (image : List ℕ) (f : Found) : Type 0 wher
   pub tally_is : f.tally ≡ tally_of image f.candidate
   pub taken_is : f.taken ≡ is_taken (tally_of image f.candidate)
   pub part : f.whole ≡ false → MayGiveUp known image
+  pub only : IsOnly known image f.candidate → f.whole ≡ true
+  pub best_usual : f.whole ≡ false → length image ≤ 2 ^ 20 → IsBestUsual known image f.candidate
   pub so_far : f.whole ≡ false → IsBestWalked known image f
   pub first : f.whole ≡ true → (d : Candidate) → is_of_family known image d ≡ true
       → is_before (key image d) (key image f.candidate) ≡ false

@@ -2,10 +2,10 @@
 use Rattle.std.specs.Prelude.{◌≡◌, ℕ, Bool, true, false, ◌&&◌, ◌||◌, ◌==◌, List, [], ◌∷◌, take, get_or, Some}
 use Rattle.layout_spec.specs.declared.Candidate.{Candidate}
 use Rattle.layout_spec.specs.declared.Known.{Known}
-use Rattle.layout_spec.specs.Family.{is_one_of}
+use Rattle.layout_spec.specs.Family.{is_one_of, order_number}
 use Rattle.layout_search.specs.Levels.{Over, having, levels_from, values}
 use Rattle.layout_search.specs.declared.levels.Level.{Level}
-use Rattle.layout_search.specs.declared.levels.Level.TheVariants.{Mem, Dump, Console, Ftrace, Pmsg, Cpus, Parity}
+use Rattle.layout_search.specs.declared.levels.Level.TheVariants.{Mem, Dump, Console, Ftrace, Pmsg, Order, Cpus, Parity}
 use Rattle.layout_search.specs.declared.levels.Reached.{Reached}
 
 -- the words in the order of the walk
@@ -18,6 +18,7 @@ word Dump c = c.dump
 word Console c = c.console
 word Ftrace c = c.ftrace
 word Pmsg c = c.pmsg
+word Order c = order_number c.order
 word Cpus c = c.cpus
 word Parity c = c.parity
 
@@ -28,6 +29,7 @@ count_of Dump r = r.dump
 count_of Console r = r.console
 count_of Ftrace r = r.ftrace
 count_of Pmsg r = r.pmsg
+count_of Order r = r.order
 count_of Cpus r = r.cpus
 count_of Parity r = r.parity
 
@@ -37,11 +39,12 @@ counted Dump r n = record r { dump = n }
 counted Console r n = record r { console = n }
 counted Ftrace r n = record r { ftrace = n }
 counted Pmsg r n = record r { pmsg = n }
+counted Order r n = record r { order = n }
 counted Cpus r n = record r { cpus = n }
 counted Parity r n = record r { parity = n }
 
 abbrev pub nowhere : Reached
-nowhere = record { mem = 0; dump = 0; console = 0; ftrace = 0; pmsg = 0; cpus = 0; parity = 0 }
+nowhere = record { mem = 0; dump = 0; console = 0; ftrace = 0; pmsg = 0; order = 0; cpus = 0; parity = 0 }
 
 -- a layout that the walk came by: its first word is among the values that were tried, or it is the next value, and the
 -- same holds of the words after it

@@ -26,6 +26,7 @@ pub fn params(c: &Candidate) -> Params
         ecc_console: c.parity,
         ecc_ftrace: c.parity,
         ecc_pmsg: c.parity,
+        order: c.order,
     }
 }
 

@@ -1,12 +1,14 @@
 // The words of a layout, in the order in which they are tried.
 ghost use Rattle.std.specs.Prelude.{◌≡◌, ℕ, List, IfOk};
 ghost use Rattle.layout_spec.specs.declared.Known.{Known as KnownValue};
-ghost use Rattle.layout_search.specs.Levels.{next as next_of, having as having_as, values as values_of};
+ghost use Rattle.layout_spec.specs.Family.{orders_for};
+ghost use Rattle.layout_search.specs.Levels.{next as next_of, having as having_as, values as values_of, order_of as order_of_number};
 ghost use Rattle.layout_search.specs.Walked.{counted as counted_as, nowhere as nowhere_at};
 ghost use Rattle.layout_search.specs.Placed.{AreLists};
 
 use crate::lists::Lists;
 use layout_spec::Candidate;
+use zone_spec::Order as ZoneOrder;
 
 /// A word, but for the tag, which is tried last.
 #[derive(Clone, Copy)]
@@ -16,6 +18,7 @@ pub enum Level {
     Console,
     Ftrace,
     Pmsg,
+    Order,
     Cpus,
     Parity,
 }
@@ -29,6 +32,7 @@ pub struct Reached {
     pub console: u64,
     pub ftrace: u64,
     pub pmsg: u64,
+    pub order: u64,
     pub cpus: u64,
     pub parity: u64,
 }
@@ -43,6 +47,7 @@ pub fn nowhere() -> Reached
         console: 0,
         ftrace: 0,
         pmsg: 0,
+        order: 0,
         cpus: 0,
         parity: 0,
     }
@@ -58,6 +63,7 @@ pub fn counted(r: &Reached, level: Level, n: u64) -> Reached
         Level::Console => Reached { console: n, ..*r },
         Level::Ftrace => Reached { ftrace: n, ..*r },
         Level::Pmsg => Reached { pmsg: n, ..*r },
+        Level::Order => Reached { order: n, ..*r },
         Level::Cpus => Reached { cpus: n, ..*r },
         Level::Parity => Reached { parity: n, ..*r },
     }
@@ -72,9 +78,20 @@ pub fn next(level: Level) -> Option<Level>
         Level::Dump => Some(Level::Console),
         Level::Console => Some(Level::Ftrace),
         Level::Ftrace => Some(Level::Pmsg),
-        Level::Pmsg => Some(Level::Cpus),
+        Level::Pmsg => Some(Level::Order),
+        Level::Order => Some(Level::Cpus),
         Level::Cpus => Some(Level::Parity),
         Level::Parity => None,
+    }
+}
+
+fn order_of(n: u64) -> ZoneOrder
+    ensures { result ≡ order_of_number n }
+{
+    if n == 0 {
+        ZoneOrder::FtracePmsg
+    } else {
+        ZoneOrder::PmsgFtrace
     }
 }
 
@@ -88,8 +105,23 @@ pub fn having(c: &Candidate, level: Level, n: u64) -> Candidate
         Level::Console => Candidate { console: n, ..*c },
         Level::Ftrace => Candidate { ftrace: n, ..*c },
         Level::Pmsg => Candidate { pmsg: n, ..*c },
+        Level::Order => Candidate {
+            order: order_of(n),
+            ..*c
+        },
         Level::Cpus => Candidate { cpus: n, ..*c },
         Level::Parity => Candidate { parity: n, ..*c },
+    }
+}
+
+/// The orders that a candidate can have, by their numbers.
+fn orders<'a>(lists: &'a Lists, c: &Candidate) -> &'a [u64]
+    ensures { (known : KnownValue) (len : ℕ) → AreLists known len lists.now → result.now ≡ orders_for known c.now }
+{
+    if c.ftrace == 0 || c.pmsg == 0 {
+        &lists.only_order
+    } else {
+        &lists.orders
     }
 }
 
@@ -104,6 +136,7 @@ pub fn values<'a>(lists: &'a Lists, level: Level, c: &Candidate) -> &'a [u64]
         Level::Console => &lists.consoles,
         Level::Ftrace => &lists.ftraces,
         Level::Pmsg => &lists.pmsgs,
+        Level::Order => orders(lists, c),
         Level::Cpus if c.ftrace == 0 => &[1],
         Level::Cpus => &lists.cpus,
         Level::Parity => &lists.parities,

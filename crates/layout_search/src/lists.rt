@@ -1,19 +1,22 @@
 // What each word of a layout can be.
 ghost use Rattle.std.specs.Prelude.{◌≡◌, ◌+◌, ◌-◌, ◌<◌, ◌≤◌, ◌^◌, ◌∷◌, ◌++◌, nat_le, filter, length, IfOk, OnOk};
+ghost use Rattle.std.specs.Prelude.{option_map};
 ghost use Rattle.std.specs.List.{range_with_len};
 ghost use Rattle.layout_search.specs.Placed.{AreLists};
 ghost use Rattle.layout_spec.specs.Family.{known_or as known_or_all, powers as all_powers, parities as all_parities};
-ghost use Rattle.layout_spec.specs.Family.{processors as all_processors};
+ghost use Rattle.layout_spec.specs.Family.{processors as all_processors, order_number as number_of};
 
 use layout_spec::Known;
 use std::alloc::{AllocError, Global};
+use zone_spec::Order;
 
 const POWERS: [u64; 17] = [
     256, 512, 1024, 2048, 4096, 8192, 16384, 32768, 65536, 131072, 262144, 524288, 1048576,
     2097152, 4194304, 8388608, 16777216,
 ];
 
-/// What each word can be, but for the tag.
+/// What each word can be, but for the tag. The orders stand by their numbers: `only_order` is that of a layout without
+/// ftrace zones or without a pmsg.
 #[derive(Drop)]
 pub struct Lists {
     pub mems: Vec<u64>,
@@ -21,6 +24,8 @@ pub struct Lists {
     pub consoles: Vec<u64>,
     pub ftraces: Vec<u64>,
     pub pmsgs: Vec<u64>,
+    pub orders: Vec<u64>,
+    pub only_order: Vec<u64>,
     pub parities: Vec<u64>,
     pub cpus: Vec<u64>,
 }
@@ -85,6 +90,16 @@ fn processors(alloc: Global) -> Result<Vec<u64>, AllocError>
     Ok(list)
 }
 
+fn order_number(order: Option<Order>) -> Option<u64>
+    ensures { result ≡ option_map number_of order }
+{
+    match order {
+        Some(Order::FtracePmsg) => Some(0),
+        Some(Order::PmsgFtrace) => Some(1),
+        None => None,
+    }
+}
+
 /// The lists for a file of this length.
 pub fn make_lists(alloc: Global, known: &Known, len: u64) -> Result<Lists, AllocError>
     ensures { IfOk result (λ lists. AreLists known.now len lists) }
@@ -93,12 +108,15 @@ pub fn make_lists(alloc: Global, known: &Known, len: u64) -> Result<Lists, Alloc
     let sizes = with_powers(alloc, 0, len)?;
     let parities = parities(alloc)?;
     let cpus = processors(alloc)?;
+    let order = order_number(known.order);
     Ok(Lists {
         mems: known_or(alloc, known.mem, &mems)?,
         dumps: known_or(alloc, known.dump, &sizes)?,
         consoles: known_or(alloc, known.console, &sizes)?,
         ftraces: known_or(alloc, known.ftrace, &sizes)?,
         pmsgs: known_or(alloc, known.pmsg, &sizes)?,
+        orders: known_or(alloc, order, &[0, 1])?,
+        only_order: known_or(alloc, order, &[0])?,
         parities: known_or(alloc, known.parity, &parities)?,
         cpus: known_or(alloc, known.cpus, &cpus)?,
     })

@@ -6,11 +6,12 @@ ghost use Rattle.layout_spec.specs.Laid.{zones_of};
 ghost use Rattle.layout_spec.specs.Marks.{marks as marks_of};
 ghost use Rattle.layout_spec.specs.Order.{is_shown as is_shown_by, most as most_of, different as different_of};
 ghost use Rattle.layout_spec.specs.Order.{tally_of, key_by, is_before as is_before_by};
+ghost use Rattle.layout_spec.specs.Family.{order_number as number_of};
 ghost use Rattle.layout_search.specs.Counted.{AreCounts, AreBelow};
 
 use crate::counting::Counts;
 use layout_spec::{Candidate, Tally};
-use zone_spec::Zone;
+use zone_spec::{Order, Zone};
 
 const MOST: u64 = 16_777_216;
 
@@ -41,6 +42,15 @@ fn different(c: &Candidate) -> u64
         + u64::from(!is_said(c.pmsg, &[]))
 }
 
+fn order_number(order: Order) -> u64
+    ensures { result ≡ number_of order }
+{
+    match order {
+        Order::FtracePmsg => 0,
+        Order::PmsgFtrace => 1,
+    }
+}
+
 /// The tally of a candidate with these zones and counts.
 pub fn tally(image: &[u8], marks: u64, c: &Candidate, zones: &[Zone], counts: &Counts) -> Tally
     requires zones { zones.now ≡ zones_of c.now }
@@ -63,7 +73,7 @@ pub fn tally(image: &[u8], marks: u64, c: &Candidate, zones: &[Zone], counts: &C
 
 /// The key of a candidate with this tally.
 #[tactic(auto, unfolding(layout_spec::specs::Order::key_by))]
-pub fn key(t: &Tally, c: &Candidate) -> [u64; 18]
+pub fn key(t: &Tally, c: &Candidate) -> [u64; 19]
     ensures { result ≡ key_by t.now c.now }
 {
     [
@@ -78,6 +88,7 @@ pub fn key(t: &Tally, c: &Candidate) -> [u64; 18]
         u64::from(c.console == 0),
         u64::from(c.pmsg == 0),
         t.behind,
+        order_number(c.order),
         most(c.dump),
         most(c.console),
         most(c.ftrace),
@@ -89,10 +100,10 @@ pub fn key(t: &Tally, c: &Candidate) -> [u64; 18]
 }
 
 /// Whether a key comes before another.
-pub fn is_before(a: &[u64; 18], b: &[u64; 18]) -> bool
+pub fn is_before(a: &[u64; 19], b: &[u64; 19]) -> bool
     ensures { result ≡ is_before_by a.now b.now }
 {
-    for i in 0..18 {
+    for i in 0..19 {
         if a[i] != b[i] {
             return a[i] < b[i];
         }

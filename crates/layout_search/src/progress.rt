@@ -7,7 +7,7 @@ use layout_spec::{Candidate, Tally};
 pub struct Best {
     pub candidate: Candidate,
     pub tally: Tally,
-    pub key: [u64; 18],
+    pub key: [u64; 19],
 }
 
 /// When a search ends.

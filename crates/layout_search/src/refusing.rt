@@ -3,7 +3,7 @@ ghost use Rattle.std.specs.Prelude.{◌≡◌, ◌≤◌, ◌||◌, ◌==◌, na
 ghost use Rattle.layout_spec.specs.declared.Known.{Known as KnownValue};
 ghost use Rattle.layout_spec.specs.Family.{is_told_once};
 ghost use Rattle.layout_search.specs.Levels.{after, next};
-ghost use Rattle.layout_search.specs.declared.levels.Level.TheVariants.{Cpus, Parity};
+ghost use Rattle.layout_search.specs.declared.levels.Level.TheVariants.{Order, Cpus, Parity};
 ghost use Rattle.layout_search.specs.Placed.{IsPlaced, IsPassed};
 ghost use Rattle.layout_search.specs.Rows.{IsRoomy};
 ghost use Rattle.layout_search.specs.Tried.{IsAim, Advances, SettledOver};
@@ -14,7 +14,7 @@ ghost use Rattle.layout_spec.specs.Order.{faults};
 use crate::levels::Level;
 use crate::peeking::first_fits;
 use crate::progress::{Aim, Effort, Progress};
-use crate::rows::{console_row, dump_memory, dump_row, ftrace_row, has_room, pmsg_row};
+use crate::rows::{console_row, dump_memory, dump_row, ftrace_row, has_room, last_rows, pmsg_row};
 use crate::seeing::{may_begin, may_fit};
 use layout_spec::{Candidate, Known};
 use std::alloc::{AllocError, Global};
@@ -71,10 +71,9 @@ fn processors_may_hold(image: &[u8], aim: &Aim, c: &Candidate, looked: &mut u64)
     }
     let dumps = dump_row(c);
     let console = console_row(c);
-    let ftrace = ftrace_row(c);
-    let pmsg = pmsg_row(c);
+    let (next, last) = last_rows(c);
     may_fit(
-        image, aim.marks, aim.limit, dumps, console, ftrace, pmsg, looked,
+        image, aim.marks, aim.limit, dumps, console, next, last, looked,
     )
 }
 
@@ -89,12 +88,12 @@ fn is_told(known: &Known, len: u64, c: &Candidate) -> bool
 }
 
 /// Whether a candidate's sizes fit the file, and its dump zones and console seem to begin at enough marks, whatever its
-/// processors and parity.
+/// order, processors and parity.
 fn sizes_may_hold(image: &[u8], known: &Known, aim: &Aim, c: &Candidate, looked: &mut u64) -> bool
     requires aim { IsAim image.now aim.now }
     ensures placed { result ≡ true → IsPlaced known.now (length image.now) c.now }
     ensures refused { result ≡ false → (s : ProgressValue)
-        → SettledOver known.now image.now aim.now (Cpus ∷ Parity ∷ []) c.now s }
+        → SettledOver known.now image.now aim.now (Order ∷ Cpus ∷ Parity ∷ []) c.now s }
 {
     if !is_told(known, image.len() as u64, c) {
         return false;
@@ -128,7 +127,7 @@ pub fn may_hold(
         → SettledOver known.now image.now aim.now (after level) c.now s) }
 {
     match level {
-        Level::Mem | Level::Dump | Level::Console | Level::Ftrace => Ok(true),
+        Level::Mem | Level::Dump | Level::Console | Level::Ftrace | Level::Order => Ok(true),
         Level::Pmsg => Ok(sizes_may_hold(image, known, aim, c, looked)),
         Level::Cpus => Ok(processors_may_hold(image, aim, c, looked)),
         Level::Parity => {

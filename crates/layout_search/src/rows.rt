@@ -1,13 +1,14 @@
 // The rows of a candidate's zones, without its zones.
-ghost use Rattle.std.specs.Prelude.{◌≡◌, ◌≤◌, ℕ, true, false};
-ghost use Rattle.zone_spec.specs.Layout.{lacks_room as lacks};
+ghost use Rattle.std.specs.Prelude.{◌≡◌, ◌≤◌, ℕ, true, false, [], ◌∷◌};
+ghost use Rattle.zone_spec.specs.Layout.{lacks_room as lacks, ordered};
+ghost use Rattle.zone_spec.specs.declared.params.Order.{Order as OrderValue};
 ghost use Rattle.layout_spec.specs.Laid.{params_of, has_layout, memory_for_dumps};
 ghost use Rattle.layout_search.specs.Seen.{IsSmallRow};
 ghost use Rattle.layout_search.specs.Rows.{IsRoomy, dump_row_of, console_row_of, ftrace_row_of, pmsg_row_of};
 
 use layout_spec::Candidate;
 use ramoops_layout::rows::{MOST_MEMORY, rounded};
-use zone_spec::{Kind, Row};
+use zone_spec::{Kind, Order, Row};
 
 /// The memory that the other zones leave to the dump zones.
 pub fn dump_memory(c: &Candidate) -> u64
@@ -30,12 +31,12 @@ fn lacks_room(c: &Candidate) -> bool
         || (dumps > 0 && dumps < rounded(c.dump))
 }
 
-/// Whether the zones fit the memory, and that is not too large. If not, there is no layout, whatever the parity, the
-/// processors and the tag.
+/// Whether the zones fit the memory, and that is not too large. If not, there is no layout, whatever the order, the
+/// processors, the parity and the tag.
 pub fn has_room(c: &Candidate) -> bool
     ensures roomy { result ≡ true → IsRoomy c.now }
-    ensures refused { result ≡ false → (n r t : ℕ)
-        → has_layout (record c.now { cpus = n; parity = r; tag = t }) ≡ false }
+    ensures refused { result ≡ false → (o : OrderValue) (n r t : ℕ)
+        → has_layout (record c.now { order = o; cpus = n; parity = r; tag = t }) ≡ false }
 {
     if c.mem > MOST_MEMORY {
         return false;
@@ -104,5 +105,22 @@ pub fn pmsg_row(c: &Candidate) -> Row
         kind: Kind::Pmsg,
         count: if size == 0 { 0 } else { 1 },
         size,
+    }
+}
+
+/// The ftrace zones and the pmsg, in their order.
+pub fn last_rows(c: &Candidate) -> (Row, Row)
+    requires roomy { IsRoomy c.now }
+    requires some { 1 ≤ c.now.cpus }
+    requires few { c.now.cpus ≤ 64 }
+    ensures value { result.0 ∷ result.1 ∷ [] ≡ ordered c.now.order (ftrace_row_of c.now) (pmsg_row_of c.now) }
+    ensures small { IsSmallRow result.0 }
+    ensures last_small { IsSmallRow result.1 }
+{
+    let ftrace = ftrace_row(c);
+    let pmsg = pmsg_row(c);
+    match c.order {
+        Order::FtracePmsg => (ftrace, pmsg),
+        Order::PmsgFtrace => (pmsg, ftrace),
     }
 }

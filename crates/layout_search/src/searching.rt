@@ -1,10 +1,12 @@
 // The search.
 ghost use Rattle.std.specs.Prelude.{◌≡◌, ◌≢◌, ◌<◌, ◌≤◌, ◌^◌, true, false, None, Some, length, option_map, IfOk, OnOk};
+ghost use Rattle.std.specs.Prelude.{ℕ, List, [], ◌∷◌};
 ghost use Rattle.std.specs.Prelude.{MatchOption};
 ghost use Rattle.layout_spec.specs.declared.Candidate.{Candidate as CandidateValue};
-ghost use Rattle.layout_spec.specs.Family.{is_of_family};
+ghost use Rattle.layout_spec.specs.declared.Known.{Known as KnownValue};
+ghost use Rattle.layout_spec.specs.Family.{is_of_family, is_one_of};
 ghost use Rattle.layout_spec.specs.Marks.{marks as marks_of};
-ghost use Rattle.layout_spec.specs.Order.{key as key_of, faults};
+ghost use Rattle.layout_spec.specs.Order.{key as key_of, faults, is_before as is_before_by};
 ghost use Rattle.layout_search.specs.Placed.{AreLists};
 ghost use Rattle.layout_search.specs.Tried.{IsKept, IsSound, Advances, IsBestSoFar, HasFew, HasMore, is_ahead};
 ghost use Rattle.layout_search.specs.declared.progress.Best.{Best as BestValue};
@@ -12,10 +14,12 @@ ghost use Rattle.layout_search.specs.declared.progress.Effort.TheVariants.{All};
 ghost use Rattle.layout_spec.specs.Laid.{zones_of};
 ghost use Rattle.layout_spec.specs.Taken.{is_taken};
 ghost use Rattle.layout_search.specs.Answers.{IsEmpty, IsSearched, AreFaulty, MayGiveUp, is_narrow};
+ghost use Rattle.layout_search.specs.Answers.{usual as usual_by, IsBestUsual, IsOnly};
 
 use crate::levels::{Reached, nowhere};
 use crate::lists::{Lists, make_lists};
 use crate::marks::count_marks;
+use crate::order::is_before;
 use crate::progress::{Aim, Best, Effort, Progress};
 use crate::sweeping::sweep;
 use layout_spec::{Candidate, Known, Tally};
@@ -43,6 +47,9 @@ pub struct Found {
     pub limit: u64,
     pub reached: Reached,
 }
+
+// In a file of at most so many bytes the usual layouts are all tried.
+const SMALL: usize = 1 << 20;
 
 fn begin(best: Option<Best>, effort: Effort, work: u64) -> Progress
     ensures best { result.best ≡ best }
@@ -250,8 +257,115 @@ fn find_rival(
     Ok(state)
 }
 
+/// What is known, and for the rest what kernels have by default: so many parity bytes, and one ftrace zone.
+fn usual(known: &Known, parity: u64) -> Known
+    ensures { result ≡ usual_by known.now parity }
+{
+    Known {
+        parity: Some(known.parity.unwrap_or(parity)),
+        cpus: Some(known.cpus.unwrap_or(1)),
+        ..*known
+    }
+}
+
+/// The one of the two that comes first.
+fn first_of(one: Best, other: Best) -> Best
+    ensures one { (k : List ℕ) → is_before_by k one.key ≡ false → is_before_by k result.key ≡ false }
+    ensures other { (k : List ℕ) → is_before_by k other.key ≡ false → is_before_by k result.key ≡ false }
+    ensures kept { (known : KnownValue) (image : List ℕ) → IsKept known image None one → IsKept known image None other
+        → IsKept known image None result }
+{
+    if is_before(&one.key, &other.key) {
+        one
+    } else {
+        other
+    }
+}
+
+/// The first of this layout and the usual ones with so many parity bytes.
+fn try_usual(
+    alloc: Global,
+    image: &[u8],
+    known: &Known,
+    marks: u64,
+    parity: u64,
+    best: Best,
+) -> Result<Best, AllocError>
+    requires marks { marks ≡ marks_of image.now }
+    requires few { marks < 2 ^ 62 }
+    requires parity { is_one_of parity (0 ∷ 16 ∷ []) ≡ true }
+    requires kept { IsKept known.now image.now None best }
+    ensures kept { IfOk result (IsKept known.now image.now None) }
+    ensures first { IfOk result (λ b. (k : List ℕ) → is_before_by k best.key ≡ false → is_before_by k b.key ≡ false) }
+    ensures usual { IfOk result (λ b. (d : CandidateValue) → is_of_family (usual_by known.now parity) image.now d ≡ true
+        → is_before_by (key_of image.now d) b.key ≡ false) }
+{
+    let usual = usual(known, parity);
+    let lists = make_lists(alloc, &usual, image.len() as u64)?;
+    let aim = Aim {
+        marks,
+        limit: best.tally.faults,
+        besides: None,
+    };
+    let mut state = begin(None, Effort::All, 1);
+    sweep(alloc, image, &usual, &lists, &aim, &mut state)?;
+    match state.best {
+        Some(other) => Ok(first_of(other, best)),
+        None => Ok(best),
+    }
+}
+
+/// The first of this layout and all usual ones, in a file that is not too long.
+fn try_all_usual(
+    alloc: Global,
+    image: &[u8],
+    known: &Known,
+    marks: u64,
+    best: Best,
+) -> Result<Best, AllocError>
+    requires marks { marks ≡ marks_of image.now }
+    requires few { marks < 2 ^ 62 }
+    requires kept { IsKept known.now image.now None best }
+    ensures kept { IfOk result (IsKept known.now image.now None) }
+    ensures first { IfOk result (λ b. (k : List ℕ) → is_before_by k best.key ≡ false → is_before_by k b.key ≡ false) }
+    ensures usual { IfOk result (λ b. length image.now ≤ 2 ^ 20 → IsBestUsual known.now image.now b.candidate) }
+{
+    if image.len() > SMALL {
+        return Ok(best);
+    }
+    let bare = try_usual(alloc, image, known, marks, 0, best)?;
+    try_usual(alloc, image, known, marks, 16, bare)
+}
+
+/// Whether there is any other layout.
+fn has_other(
+    alloc: Global,
+    image: &[u8],
+    known: &Known,
+    lists: &Lists,
+    marks: u64,
+    best: &Best,
+) -> Result<bool, AllocError>
+    requires marks { marks ≡ marks_of image.now }
+    requires few { marks < 2 ^ 62 }
+    requires lists { AreLists known.now (length image.now) lists.now }
+    ensures other { IfOk result (λ other. other ≡ true → IsOnly known.now image.now best.now.candidate → ⊥) }
+    ensures only { IfOk result (λ other. other ≡ false → (d : CandidateValue) → is_of_family known.now image.now d ≡ true
+        → best.now.candidate ≢ d → ⊥) }
+{
+    let mut state = begin(None, Effort::First, 1);
+    let aim = Aim {
+        marks,
+        limit: LAST,
+        besides: Some(best.candidate),
+    };
+    sweep(alloc, image, known, lists, &aim, &mut state)?;
+    Ok(state.best.is_some())
+}
+
 /// The layout of the family that comes first for these bytes, of those that agree with what is known. `None` only if
-/// none agrees. It does not write. Where it may give up it does so after so much work, and says so.
+/// none agrees. It does not write. Where it may give up it does so after so much work, and says so. In a file of at most
+/// 1 MiB the usual layouts are tried then too: none of them is before the answer.
 pub fn search(alloc: Global, image: &[u8], known: &Known) -> Result<Option<Found>, AllocError>
     ensures { IfOk result (IsSearched known.now image.now) }
 {
@@ -265,11 +379,17 @@ pub fn search(alloc: Global, image: &[u8], known: &Known) -> Result<Option<Found
         return Ok(None);
     };
     if state.work == 0 {
-        return Ok(Some(answer(&best, None, false, &state)));
+        let best = try_all_usual(alloc, image, known, marks, best)?;
+        let other = has_other(alloc, image, known, &lists, marks, &best)?;
+        return Ok(Some(answer(&best, None, !other, &state)));
     }
     let others = find_rival(alloc, image, known, &lists, marks, &best, state.work)?;
     let rival = candidate_of(&others.best);
-    Ok(Some(answer(&best, rival, others.work > 0, &state)))
+    if others.work > 0 {
+        return Ok(Some(answer(&best, rival, true, &state)));
+    }
+    let other = has_other(alloc, image, known, &lists, marks, &best)?;
+    Ok(Some(answer(&best, rival, !other, &state)))
 }
 
 fn candidate_of(best: &Option<Best>) -> Option<Candidate>

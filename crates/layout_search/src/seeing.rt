@@ -113,8 +113,8 @@ pub fn may_fit(
     limit: u64,
     dumps: Row,
     console: Row,
-    ftrace: Row,
-    pmsg: Row,
+    next: Row,
+    last: Row,
     looked: &mut u64,
 ) -> bool
     requires marks { marks ≡ marks_of image.now }
@@ -122,12 +122,12 @@ pub fn may_fit(
     requires limit { limit < 2 ^ 63 }
     requires dumps { IsSmallRow dumps }
     requires console { IsSmallRow console }
-    requires ftrace { IsSmallRow ftrace }
-    requires pmsg { IsSmallRow pmsg }
+    requires next { IsSmallRow next }
+    requires last { IsSmallRow last }
     ensures { result ≡ false → (p : Params)
-        → limit < faults image.now (zones_from p 0 (dumps ∷ console ∷ ftrace ∷ pmsg ∷ [])) }
+        → limit < faults image.now (zones_from p 0 (dumps ∷ console ∷ next ∷ last ∷ [])) }
 {
-    let most = dumps.count + console.count + ftrace.count + pmsg.count;
+    let most = dumps.count + console.count + next.count + last.count;
     if marks > limit + most {
         return false;
     }
@@ -137,10 +137,10 @@ pub fn may_fit(
     // the few zones at the end first: they are tried with each number of processors
     let second = end_of(dumps, 0);
     let third = end_of(console, second);
-    let Some(one) = see(image, ftrace, third, limit, NOTHING, looked) else {
+    let Some(one) = see(image, next, third, limit, NOTHING, looked) else {
         return false;
     };
-    let Some(two) = see(image, pmsg, end_of(ftrace, third), limit, one, looked) else {
+    let Some(two) = see(image, last, end_of(next, third), limit, one, looked) else {
         return false;
     };
     let Some(three) = see(image, dumps, 0, limit, two, looked) else {

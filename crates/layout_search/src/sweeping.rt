@@ -13,6 +13,7 @@ use crate::refusing::{may_hold, spend};
 use crate::tagging::try_tags;
 use layout_spec::{Candidate, Known};
 use std::alloc::{AllocError, Global};
+use zone_spec::Order;
 
 /// Tries a candidate with each value of this word and of those after it, and with each tag. Tells what it reached if
 /// it ended before.
@@ -101,6 +102,7 @@ pub fn sweep(
         parity: 0,
         cpus: 1,
         tag: 0,
+        order: Order::FtracePmsg,
     };
     let stop = walk(
         alloc,

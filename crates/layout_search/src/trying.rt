@@ -17,7 +17,7 @@ use layout_spec::Candidate;
 use std::alloc::{AllocError, Global};
 use zone_spec::Zone;
 
-fn is_ahead(key: &[u64; 18], best: &Option<Best>) -> bool
+fn is_ahead(key: &[u64; 19], best: &Option<Best>) -> bool
     ensures { result ≡ is_ahead_of key.now best.now }
 {
     match best {

@@ -1,10 +1,12 @@
 -- The layouts that are looked through
 use Rattle.std.specs.Prelude.{ℕ, ◌-◌, Bool, true, false, ◌&&◌, ◌||◌, if◌then◌else◌, nat_lt, nat_le, ◌==◌, List, [], ◌∷◌}
-use Rattle.std.specs.Prelude.{map, filter, length, bit_xor, is_some, Option, None, Some}
+use Rattle.std.specs.Prelude.{map, filter, length, bit_xor, is_some, Option, None, Some, option_map}
 use Rattle.std.specs.List.{list_any, range_with_len}
 use Rattle.zone_spec.specs.declared.Kind.{Kind}
 use Rattle.zone_spec.specs.declared.Kind.TheVariants.{Ftrace}
 use Rattle.zone_spec.specs.declared.Zone.{Zone}
+use Rattle.zone_spec.specs.declared.params.Order.{Order}
+use Rattle.zone_spec.specs.declared.params.Order.TheVariants.{FtracePmsg, PmsgFtrace}
 use Rattle.zone_spec.specs.Numbers.{plain_sig}
 use Rattle.layout_spec.specs.declared.Candidate.{Candidate}
 use Rattle.layout_spec.specs.declared.Known.{Known}
@@ -42,6 +44,16 @@ processors = range_with_len 1 64
 -- where there are no ftrace zones, one processor and tag 0 stand for all
 abbrev pub cpus_for : Known → ℕ → List ℕ
 cpus_for known ftrace = if ftrace == 0 then 1 ∷ [] else known_or known.cpus processors
+
+-- the orders are counted from the kernel's first
+abbrev pub order_number : Order → ℕ
+order_number FtracePmsg = 0
+order_number PmsgFtrace = 1
+
+-- the orders, by their numbers. Where there are no ftrace zones or no pmsg, the first stands for both
+abbrev pub orders_for : Known → Candidate → List ℕ
+orders_for known c =
+    known_or (option_map order_number known.order) (if (c.ftrace == 0) || (c.pmsg == 0) then 0 ∷ [] else 0 ∷ 1 ∷ [])
 
 -- the tag of an ftrace zone's header, which is the exclusive-or of signature and tag
 abbrev pub tag_read : List ℕ → Zone → ℕ
@@ -82,7 +94,8 @@ is_shape known len c =
 unfoldable pub is_chosen : Known → ℕ → Candidate → Bool
 is_chosen known len c =
     is_shape known len c && is_told_once known len c && nat_le c.mem len
-    && is_one_of c.cpus (cpus_for known c.ftrace) && is_one_of c.parity (known_or known.parity parities)
+    && is_one_of (order_number c.order) (orders_for known c) && is_one_of c.cpus (cpus_for known c.ftrace)
+    && is_one_of c.parity (known_or known.parity parities)
 
 -- a layout of the family: it agrees with what is known, and lies within the file
 unfoldable pub is_of_family : Known → List ℕ → Candidate → Bool

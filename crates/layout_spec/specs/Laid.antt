@@ -22,6 +22,7 @@ params_of c = record {
   ecc_console = c.parity;
   ecc_ftrace = c.parity;
   ecc_pmsg = c.parity;
+  order = c.order;
 }
 
 abbrev pub rows_of : Candidate → List Row

@@ -8,7 +8,7 @@ use Rattle.layout_spec.specs.declared.Known.{Known}
 use Rattle.layout_spec.specs.declared.Tally.{Tally}
 use Rattle.layout_spec.specs.Laid.{zones_of}
 use Rattle.layout_spec.specs.Marks.{flag, marks, is_mark, fits, has_log, is_odd, header_of}
-use Rattle.layout_spec.specs.Family.{is_of_family}
+use Rattle.layout_spec.specs.Family.{is_of_family, order_number}
 
 -- the zones that do not fit
 abbrev pub misses : List ℕ → List Zone → ℕ
@@ -57,13 +57,13 @@ tally_of image c =
 
 -- what is compared, the weightiest first: fewest faults, a parity that is shown, the largest parity, most zones,
 -- fewest odd ones, most logs, fewest corrected bytes, fewest different sizes, a console, a pmsg, fewest bytes behind the
--- zones. The last seven name the layout
+-- zones. The last eight name the layout, the order of ftrace and pmsg first
 unfoldable pub key_by : Tally → Candidate → List ℕ
 key_by t c =
     t.faults ∷ flag (not (is_shown c.parity t.fits t.corrected)) ∷ most c.parity ∷ most t.zones ∷ t.odd ∷ most t.logs
     ∷ t.corrected ∷ different (c.dump ∷ c.console ∷ c.ftrace ∷ c.pmsg ∷ [])
     ∷ flag (c.console == 0) ∷ flag (c.pmsg == 0) ∷ t.behind
-    ∷ most c.dump ∷ most c.console ∷ most c.ftrace ∷ most c.pmsg ∷ most c.cpus ∷ c.tag ∷ most c.mem ∷ []
+    ∷ order_number c.order ∷ most c.dump ∷ most c.console ∷ most c.ftrace ∷ most c.pmsg ∷ most c.cpus ∷ c.tag ∷ most c.mem ∷ []
 
 abbrev pub key : List ℕ → Candidate → List ℕ
 key image c = key_by (tally_of image c) c

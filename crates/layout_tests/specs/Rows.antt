@@ -1,5 +1,8 @@
--- Two worked rows: a region of 512 bytes with two empty zones without parity, and layouts that lose against theirs
-use Rattle.std.specs.Prelude.{◌≡◌, ℕ, true, List, [], ◌∷◌, ◌++◌, codes, map, replicate}
+-- Worked rows: a region of 512 bytes with two empty zones without parity, and layouts that lose against theirs; the two
+-- orders of ftrace and pmsg
+use Rattle.std.specs.Prelude.{◌≡◌, ℕ, true, false, List, [], ◌∷◌, ◌++◌, codes, map, replicate}
+use Rattle.zone_spec.specs.declared.params.Order.{Order}
+use Rattle.zone_spec.specs.declared.params.Order.TheVariants.{FtracePmsg, PmsgFtrace}
 use Rattle.layout_spec.specs.declared.Candidate.{Candidate}
 use Rattle.layout_spec.specs.Laid.{zones_of, has_layout}
 use Rattle.layout_spec.specs.Marks.{fits, marks}
@@ -23,6 +26,7 @@ layout dump console pmsg = record {
   parity = 0;
   cpus = 1;
   tag = 0;
+  order = FtracePmsg;
 }
 
 -- a console and a pmsg: both fit, no mark is left. Two dump zones, whose kinds nothing tells apart from these, come
@@ -49,3 +53,31 @@ OneDamagedHeader =
     × (faults one_damaged (zones_of (layout 0 512 0)) ≡ 1)
     × (is_before (key one_damaged (layout 0 256 256)) (key one_damaged (layout 0 512 0)) ≡ true)
     × (is_taken (tally_of one_damaged (layout 0 256 256)) ≡ true)
+
+-- console, ftrace and pmsg of 256 bytes, the tag that of Linux 6.12
+abbrev pub with_order : Order → Candidate
+with_order order = record {
+  mem = 768;
+  dump = 0;
+  console = 256;
+  ftrace = 256;
+  pmsg = 256;
+  parity = 0;
+  cpus = 1;
+  tag = 0x60c75;
+  order = order;
+}
+
+-- as Linux 6.12 lays them out: the header of ftrace comes last
+abbrev pub newer : List ℕ
+newer = empty_zone ++ empty_zone ++ codes "1NAC" ++ replicate 252 0
+
+-- pmsg before ftrace fits. The other order does not, and is behind it. If nothing fits, nothing tells the two orders
+-- apart, and that of Linux 6.1 comes first
+abbrev pub TwoOrders : Type 0
+TwoOrders =
+    (map (fits newer) (zones_of (with_order PmsgFtrace)) ≡ true ∷ true ∷ true ∷ [])
+    × (map (fits newer) (zones_of (with_order FtracePmsg)) ≡ true ∷ false ∷ false ∷ [])
+    × (faults newer (zones_of (with_order PmsgFtrace)) ≡ 0)
+    × (is_before (key newer (with_order PmsgFtrace)) (key newer (with_order FtracePmsg)) ≡ true)
+    × (is_before (key (replicate 768 0) (with_order FtracePmsg)) (key (replicate 768 0) (with_order PmsgFtrace)) ≡ true)

@@ -2,6 +2,7 @@
 use layout_search::{Known, search};
 use std::alloc::{AllocError, Global};
 use std::test::Fail;
+use zone_spec::Order;
 
 // The 16 parity bytes of a header with nothing in its ring, as Linux wrote them.
 const FRESH_PARITY: [u8; 16] = [
@@ -73,6 +74,47 @@ fn known_words_are_kept(rt: HostRuntime) -> Result<(), Fail> {
     let layout = found.candidate;
     assert_eq!(rt; (layout.dump, layout.console, layout.pmsg), (512, 512, 0));
     assert_eq!(rt; layout.parity, 16);
+    Ok(())
+}
+
+// A console and a pmsg, and behind them an ftrace zone with the tag of Linux 6.12.
+fn newer(alloc: Global) -> Result<Vec<u8>, AllocError> {
+    let mut image = zones(alloc, 2, 256, &[])?;
+    image.extend_from_slice(b"1NAC")?;
+    for _ in 0..252 {
+        image.push(0)?;
+    }
+    Ok(image)
+}
+
+// Pmsg before ftrace, as Linux 6.12 has it.
+#[test]
+fn pmsg_before_ftrace(rt: HostRuntime) -> Result<(), Fail> {
+    let image = newer(rt.alloc())?;
+    let found = search(rt.alloc(), &image, &Known::default())?.ok_or("none")?;
+    let layout = found.candidate;
+    assert_eq!(rt; (layout.dump, layout.console), (0, 256));
+    assert_eq!(rt; (layout.ftrace, layout.pmsg), (256, 256));
+    assert!(rt; layout.order == Order::PmsgFtrace);
+    assert_eq!(rt; (layout.tag, layout.cpus), (0x60c75, 1));
+    assert_eq!(rt; (found.tally.faults, found.tally.fits), (0, 3));
+    Ok(())
+}
+
+// The known order is kept: then the zone before ftrace is the console, and that before it a dump zone.
+#[test]
+fn the_known_order_is_kept(rt: HostRuntime) -> Result<(), Fail> {
+    let image = newer(rt.alloc())?;
+    let known = Known {
+        order: Some(Order::FtracePmsg),
+        ..Known::default()
+    };
+    let found = search(rt.alloc(), &image, &known)?.ok_or("none")?;
+    let layout = found.candidate;
+    assert_eq!(rt; (layout.dump, layout.console), (256, 256));
+    assert_eq!(rt; (layout.ftrace, layout.pmsg), (256, 0));
+    assert!(rt; layout.order == Order::FtracePmsg);
+    assert_eq!(rt; (found.tally.faults, found.tally.fits), (0, 3));
     Ok(())
 }
 

@@ -6,4 +6,4 @@
 mod layout_search_tests;
 mod rows;
 
-pub use rows::{one_damaged_header, two_empty_zones};
+pub use rows::{one_damaged_header, two_empty_zones, two_orders};

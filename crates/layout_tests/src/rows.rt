@@ -1,5 +1,5 @@
 // Worked layouts, each a theorem.
-ghost use Rattle.layout_tests.specs.Rows.{TwoEmptyZones, OneDamagedHeader};
+ghost use Rattle.layout_tests.specs.Rows.{TwoEmptyZones, OneDamagedHeader, TwoOrders};
 
 /// Two empty zones.
 pub fn two_empty_zones()
@@ -9,4 +9,9 @@ pub fn two_empty_zones()
 /// One of two headers is damaged.
 pub fn one_damaged_header()
     ensures { OneDamagedHeader }
+{}
+
+/// Pmsg before ftrace, and ftrace before pmsg.
+pub fn two_orders()
+    ensures { TwoOrders }
 {}

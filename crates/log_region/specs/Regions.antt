@@ -4,6 +4,7 @@ use Rattle.std.specs.Prelude.{Ok}
 use Rattle.std.specs.Int.{w32, to_le_bytes}
 use Rattle.zone_spec.specs.declared.Kind.TheVariants.{Console}
 use Rattle.zone_spec.specs.declared.Zone.{Zone}
+use Rattle.zone_spec.specs.declared.params.Order.TheVariants.{FtracePmsg}
 use Rattle.zone_spec.specs.declared.params.Params.{Params}
 use Rattle.zone_spec.specs.Numbers.{plain_sig}
 use Rattle.zone_spec.specs.Layout.{layout_of, zone_at}
@@ -43,6 +44,7 @@ params_of size = record {
   ecc_console = 0;
   ecc_ftrace = 0;
   ecc_pmsg = 0;
+  order = FtracePmsg;
 }
 
 abbrev pub zone_of : ℕ → Zone

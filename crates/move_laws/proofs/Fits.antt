@@ -50,7 +50,13 @@ filter_at p q (y ∷ ys) (suc i) x e h k = filter_at p q ys i x (by (q y) e) h k
     by true f = (and_parts (p y) (list_all p (filter q ys)) f).1
     by false f = f
 
-same_kind : (a b : Kind) → is_of a b ≡ true → a ≡ b
+pub kind_itself : (k : Kind) → is_of k k ≡ true
+kind_itself Dump = refl
+kind_itself Console = refl
+kind_itself Ftrace = refl
+kind_itself Pmsg = refl
+
+pub same_kind : (a b : Kind) → is_of a b ≡ true → a ≡ b
 same_kind Dump Dump e = refl
 same_kind Console Console e = refl
 same_kind Ftrace Ftrace e = refl

@@ -10,4 +10,4 @@ pub mod Order
 pub mod Fits
 pub mod Places
 pub mod SavedLogs
-pub mod Ranks
+pub mod Rising

@@ -21,7 +21,7 @@ use Rattle.machine_spec.specs.Erasures.{saved_logs}
 use Rattle.machine_spec.specs.Moved.{found_of, fitting, moved}
 use Rattle.machine_laws.proofs.Lists.{get-below}
 use Rattle.move_laws.specs.Moves.{ReadsLog}
-use Rattle.move_laws.specs.Listed.{named, IsOneLog, MovedImageLists, MoveListsWhatFits}
+use Rattle.move_laws.specs.Listed.{named, named_of, IsOneLog, MovedImageLists, MoveListsWhatFits}
 use Rattle.move_laws.proofs.MovedState.{moved-reads}
 use Rattle.move_laws.proofs.ListedLogs.{fitting_lists_what_fits}
 use Rattle.move_laws.proofs.Fits.{fitting_logs_fit}
@@ -32,59 +32,60 @@ use Rattle.move_laws.proofs.Places.{fitting_takes_in_order}
 abbrev Named : Type 0
 Named = ZoneName × List ℕ
 
-abbrev named_in : List Saved → List Named
-named_in zones = flat_map (λ (zone : Saved). map (named zone.0.name) (found zone.1)) zones
+abbrev named_in : Kind → List Saved → List Named
+named_in kind zones = flat_map (λ (zone : Saved). named_of kind zone.0.name (found zone.1)) zones
 
-abbrev log_for : Kind → Named → List (List ℕ)
-log_for kind p = cond (is_of kind p.0.kind) (p.1 ∷ []) []
+abbrev logs_in : List Named → List (List ℕ)
+logs_in ps = flat_map (λ (p : Named). p.1 ∷ []) ps
 
-abbrev dump_for : Named → List Listed
-dump_for p = cond (is_of Dump p.0.kind) (dump_of p.0.index p.1 (read_line p.1)) []
+abbrev dumps_in : List Named → List Listed
+dumps_in ps = flat_map (λ (p : Named). dump_of p.0.index p.1 (read_line p.1)) ps
 
-logs_one : (b : Bool) (rs : List ZoneReading) → cond b (map (λ (r : ZoneReading). r.log) rs) []
-    ≡ flat_map (λ (r : ZoneReading). cond b (r.log ∷ []) []) rs
-logs_one true [] = refl
-logs_one false [] = refl
-logs_one true (r ∷ rs) = ap (λ xs. r.log ∷ xs) (logs_one true rs)
-logs_one false (r ∷ rs) = logs_one false rs
+logs_one : (name : ZoneName) (b : Bool) (rs : List ZoneReading) → cond b (map (λ (r : ZoneReading). r.log) rs) []
+    ≡ logs_in (cond b (map (named name) rs) [])
+logs_one name true [] = refl
+logs_one name true (r ∷ rs) = ap (λ xs. r.log ∷ xs) (logs_one name true rs)
+logs_one name false rs = refl
 
-dumps_one : (b : Bool) (g : ZoneReading → List Listed) (rs : List ZoneReading) → cond b (flat_map g rs) []
-    ≡ flat_map (λ (r : ZoneReading). cond b (g r) []) rs
-dumps_one true g rs = refl
-dumps_one false g [] = refl
-dumps_one false g (r ∷ rs) = dumps_one false g rs
+dumps_one : (name : ZoneName) (b : Bool) (rs : List ZoneReading)
+    → cond b (flat_map (λ (r : ZoneReading). dump_of name.index r.log (read_line r.log)) rs) []
+    ≡ dumps_in (cond b (map (named name) rs) [])
+dumps_one name true [] = refl
+dumps_one name true (r ∷ rs) = ap (λ xs. dump_of name.index r.log (read_line r.log) ++ xs) (dumps_one name true rs)
+dumps_one name false rs = refl
 
-through : {X : Type 0} (f : Named → List X) (name : ZoneName) (rs : List ZoneReading)
-    → flat_map f (map (named name) rs) ≡ flat_map (λ r. f (named name r)) rs
-through f name [] = refl
-through f name (r ∷ rs) = ap (λ xs. f (named name r) ++ xs) (through f name rs)
-
-logs_named : (kind : Kind) (zones : List Saved) → logs_of kind zones ≡ flat_map (log_for kind) (named_in zones)
+logs_named : (kind : Kind) (zones : List Saved) → logs_of kind zones ≡ logs_in (named_in kind zones)
 logs_named kind [] = refl
 logs_named kind (zone ∷ zones) =
-    ap₂ (λ xs ys. xs ++ ys) (logs_one (is_of kind zone.0.name.kind) (found zone.1)
-    ∙ sym (through (log_for kind) zone.0.name (found zone.1))) (logs_named kind zones)
-    ∙ sym (flat_map-append (log_for kind) (map (named zone.0.name) (found zone.1)) (named_in zones))
+    ap₂ (λ xs ys. xs ++ ys) (logs_one zone.0.name (is_of kind zone.0.name.kind) (found zone.1)) (logs_named kind zones)
+    ∙ sym (flat_map-append (λ (p : Named). p.1 ∷ []) (named_of kind zone.0.name (found zone.1)) (named_in kind zones))
 
-dumps_named : (zones : List Saved) → dumps_of zones ≡ flat_map dump_for (named_in zones)
+dumps_named : (zones : List Saved) → dumps_of zones ≡ dumps_in (named_in Dump zones)
 dumps_named [] = refl
 dumps_named (zone ∷ zones) =
-    ap₂ (λ xs ys. xs ++ ys) (dumps_one (is_of Dump zone.0.name.kind)
-    (λ (r : ZoneReading). dump_of zone.0.name.index r.log (read_line r.log)) (found zone.1)
-    ∙ sym (through dump_for zone.0.name (found zone.1))) (dumps_named zones)
-    ∙ sym (flat_map-append dump_for (map (named zone.0.name) (found zone.1)) (named_in zones))
+    ap₂ (λ xs ys. xs ++ ys) (dumps_one zone.0.name (is_of Dump zone.0.name.kind) (found zone.1)) (dumps_named zones)
+    ∙ sym (flat_map-append (λ (p : Named). dump_of p.0.index p.1 (read_line p.1))
+    (named_of Dump zone.0.name (found zone.1)) (named_in Dump zones))
 
-abbrev listed_named : List Named → List Listed
-listed_named xs = flat_map dump_for xs ++ plain ConsoleName (flat_map (log_for Console) xs)
-    ++ plain PmsgName (flat_map (log_for Pmsg) xs) ++ ftrace_of (flat_map (log_for Ftrace) xs)
+abbrev listed_named : (Kind → List Named) → List Listed
+listed_named of = dumps_in (of Dump) ++ plain ConsoleName (logs_in (of Console)) ++ plain PmsgName (logs_in (of Pmsg))
+    ++ ftrace_of (logs_in (of Ftrace))
 
-listed_is : (zones : List Saved) → listed_of zones ≡ listed_named (named_in zones)
+listed_is : (zones : List Saved) → listed_of zones ≡ listed_named (λ kind. named_in kind zones)
 listed_is zones =
     ap₂ (λ xs ys. xs ++ ys)
     (ap₂ (λ xs ys. xs ++ ys)
     (ap₂ (λ xs ys. xs ++ ys) (dumps_named zones) (ap (plain ConsoleName) (logs_named Console zones)))
     (ap (plain PmsgName) (logs_named Pmsg zones)))
     (ap ftrace_of (logs_named Ftrace zones))
+
+listed_same : (f g : Kind → List Named) → ((kind : Kind) → f kind ≡ g kind) → listed_named f ≡ listed_named g
+listed_same f g same =
+    ap₂ (λ xs ys. xs ++ ys)
+    (ap₂ (λ xs ys. xs ++ ys)
+    (ap₂ (λ xs ys. xs ++ ys) (ap dumps_in (same Dump)) (ap (λ ps. plain ConsoleName (logs_in ps)) (same Console)))
+    (ap (λ ps. plain PmsgName (logs_in ps)) (same Pmsg)))
+    (ap (λ ps. ftrace_of (logs_in ps)) (same Ftrace))
 
 -- ---- zone by zone
 
@@ -93,12 +94,12 @@ each_same : {X : Type 0} (f g : Zone → List X) (zs : List Zone)
 each_same f g [] h = refl
 each_same f g (z ∷ zs) h = ap₂ (λ xs ys. xs ++ ys) (h 0 z refl) (each_same f g zs (λ i y e. h (suc i) y e))
 
-saved_named : (read : Zone → ZoneReading) (zs : List Zone)
-    → named_in (zip zs (map (λ z. Some (read z)) zs))
-    ≡ flat_map (λ (z : Zone). map (named z.name) (found_in (read z) (read z).state)) zs
-saved_named read [] = refl
-saved_named read (z ∷ zs) =
-    ap (λ xs. map (named z.name) (found_in (read z) (read z).state) ++ xs) (saved_named read zs)
+saved_named : (kind : Kind) (read : Zone → ZoneReading) (zs : List Zone)
+    → named_in kind (zip zs (map (λ z. Some (read z)) zs))
+    ≡ flat_map (λ (z : Zone). named_of kind z.name (found_in (read z) (read z).state)) zs
+saved_named kind read [] = refl
+saved_named kind read (z ∷ zs) =
+    ap (λ xs. named_of kind z.name (found_in (read z) (read z).state) ++ xs) (saved_named kind read zs)
 
 abbrev first_of : List ZoneReading → List ℕ
 first_of rs = unwrap_or (find (λ (log : List ℕ). not (length log == 0)) (map (λ (r : ZoneReading). r.log) rs)) []
@@ -124,15 +125,18 @@ moved_image_lists layout mem zones lies fit takes =
     let off = moved layout mem zones in
     let reads = moved-reads layout mem zones lies fit in
     let read : Zone → ZoneReading = (λ z. zone_reading z (zone_bytes z off.image)) in
-    let same : named_in (saved_logs layout (booted layout off)) ≡ named_in zones =
-    saved_named read layout
-    ∙ each_same (λ z. map (named z.name) (found_in (read z) (read z).state))
-    (λ z. map (named z.name) (found_of zones z)) layout (λ i z e.
+    let same : (kind : Kind) → named_in kind (saved_logs layout (booted layout off)) ≡ named_in kind zones =
+    (λ kind. saved_named kind read layout
+    ∙ each_same (λ z. named_of kind z.name (found_in (read z) (read z).state))
+    (λ z. named_of kind z.name (found_of zones z)) layout (λ i z e.
     let there = slice_get_there off.zones i (omega (arith, get-below layout i z e, reads.0)) in
     let is : ReadsLog zones z (zone_bytes z off.image) = reads.1 i z there.0 e there.1 in
-    one_log z.name (found_of zones z) (read z) (takes.one i z e) is.log is.state)
-    ∙ takes.order in
-    listed_is (saved_logs layout (booted layout off)) ∙ ap listed_named same ∙ sym (listed_is zones)
+    ap (λ us. cond (is_of kind z.name.kind) us [])
+    (one_log z.name (found_of zones z) (read z) (takes.one i z e) is.log is.state))
+    ∙ takes.order kind) in
+    listed_is (saved_logs layout (booted layout off))
+    ∙ listed_same (λ kind. named_in kind (saved_logs layout (booted layout off))) (λ kind. named_in kind zones) same
+    ∙ sym (listed_is zones)
 
 pub move_lists_what_fits : MoveListsWhatFits
 move_lists_what_fits layout mem zones lies are bytes order =

@@ -8,14 +8,16 @@ use Rattle.std.proofs.lemmas.List.Quantifiers.{position-Some}
 use Rattle.std.proofs.lemmas.Option.{slice_get-get_or}
 use Rattle.zone_spec.specs.declared.Zone.{Zone}
 use Rattle.zone_spec.specs.declared.ZoneName.{ZoneName}
+use Rattle.zone_spec.specs.declared.Kind.{Kind}
 use Rattle.zone_spec.specs.declared.State.{State}
 use Rattle.zone_spec.specs.declared.State.TheVariants.{Unsigned, Empty, Invalid, Found}
 use Rattle.zone_spec.specs.Reading.{ZoneReading}
-use Rattle.zone_spec.specs.Records.{Saved, found_in, found}
+use Rattle.zone_spec.specs.Records.{Saved, is_of, found_in, found}
 use Rattle.zone_spec.specs.Layouts.{is_zone, zone_place}
 use Rattle.machine_spec.specs.Moved.{zone_named, has_room, record_name, is_fit, kept_if, fitting, found_of}
-use Rattle.move_laws.specs.Listed.{AreNamed, HaveBytes, IsOfBytes, ComeInOrder, named, IsOneLog, FittingTakesInOrder}
-use Rattle.move_laws.proofs.Fits.{same_name, room_is}
+use Rattle.move_laws.specs.Listed.{AreNamed, HaveBytes, IsOfBytes, ComeInOrder, named, named_of, IsOneLog}
+use Rattle.move_laws.specs.Listed.{FittingTakesInOrder}
+use Rattle.move_laws.proofs.Fits.{same_kind, kind_itself, same_name, room_is}
 
 -- ---- lists
 
@@ -49,14 +51,35 @@ each_same : {X : Type 0} (f g : Zone → List X) (zs : List Zone) → ((z : Zone
 each_same f g [] h = refl
 each_same {X = X} f g (z ∷ zs) h = ap₂ (λ (us vs : List X). us ++ vs) (h z) (each_same f g zs h)
 
-none_all : (zs : List Zone) → flat_map (λ (z : Zone). map (named z.name) (found_of [] z)) zs ≡ []
-none_all [] = refl
-none_all (z ∷ zs) = none_all zs
+-- ---- readings of a kind
+
+none_of : (kind : Kind) (name : ZoneName) → named_of kind name [] ≡ []
+none_of kind name = by (is_of kind name.kind)
+  where
+    by : (b : Bool) → cond {A = List (ZoneName × List ℕ)} b [] [] ≡ []
+    by true = refl
+    by false = refl
+
+of_kind : (kind : Kind) (name : ZoneName) (rs : List ZoneReading) → is_of kind name.kind ≡ true
+    → named_of kind name rs ≡ map (named name) rs
+of_kind kind name rs own = ap (λ b. cond b (map (named name) rs) []) own
+
+of_other : (kind : Kind) (name : ZoneName) (rs : List ZoneReading) → is_of kind name.kind ≡ false
+    → named_of kind name rs ≡ []
+of_other kind name rs other = ap (λ b. cond b (map (named name) rs) []) other
+
+none_all : (kind : Kind) (zs : List Zone) → flat_map (λ (z : Zone). named_of kind z.name (found_of [] z)) zs ≡ []
+none_all kind [] = refl
+none_all kind (z ∷ zs) = ap₂ (λ us vs. us ++ vs) (none_of kind z.name) (none_all kind zs)
 
 -- ---- places in a layout
 
-abbrev named_in : List Saved → List (ZoneName × List ℕ)
-named_in zones = flat_map (λ (zone : Saved). map (named zone.0.name) (found zone.1)) zones
+abbrev named_in : Kind → List Saved → List (ZoneName × List ℕ)
+named_in kind zones = flat_map (λ (zone : Saved). named_of kind zone.0.name (found zone.1)) zones
+
+-- two of one kind
+both : (kind a b : Kind) → is_of kind a ≡ true → is_of kind b ≡ true → is_of a b ≡ true
+both kind a b h k = subst (λ (x : Kind). is_of x b ≡ true) (same_kind kind a h) k
 
 -- where a saved zone with something found goes, and that it is one log
 record HasPlace (layout : List Zone) (zone : Saved) (r : ZoneReading) (rs : List ZoneReading) : Type 0 where
@@ -80,47 +103,55 @@ module _ (layout : List Zone) (are : AreNamed layout) where
       by true e = absurd (ne (let g : Some i ≡ Some j = sym place ∙ place_of name j y hy e in cc))
       by false e = refl
 
-  -- of zones that all come behind i none is at a place up to i
-  behind_none : (zs : List Saved) (i j : ℕ) (y : Zone) → slice_get layout j ≡ Some y → j ≤ i
-      → ((k n : ℕ) (s : Saved) → slice_get zs k ≡ Some s → zone_place layout s.0.name ≡ Some n → i < n)
+  -- of zones of a kind that all come behind i none is at a place up to i
+  behind_none : (kind : Kind) (zs : List Saved) (i j : ℕ) (y : Zone) → slice_get layout j ≡ Some y
+      → is_of kind y.name.kind ≡ true → j ≤ i
+      → ((k n : ℕ) (s : Saved) → slice_get zs k ≡ Some s → is_of kind s.0.name.kind ≡ true
+      → zone_place layout s.0.name ≡ Some n → i < n)
       → found_of zs y ≡ []
-  behind_none [] i j y hy low after = refl
-  behind_none (s ∷ ss) i j y hy low after =
-      by (is_zone s.0.name y) refl (behind_none ss i j y hy low (λ k n t e p. after (suc k) n t e p))
+  behind_none kind [] i j y hy own low after = refl
+  behind_none kind (s ∷ ss) i j y hy own low after =
+      by (is_zone s.0.name y) refl (behind_none kind ss i j y hy own low (λ k n t e o p. after (suc k) n t e o p))
     where
       by : (b : Bool) → is_zone s.0.name y ≡ b → found_of ss y ≡ [] → cond b (found s.1) [] ++ found_of ss y ≡ []
-      by true e rest = absurd (let l : i < j = after 0 j s refl (place_of s.0.name j y hy e) in omega arith)
+      by true e rest =
+          let l : i < j = after 0 j s refl (ap (λ (n : ZoneName). is_of kind n.kind) (same_name s.0.name y e) ∙ own)
+          (place_of s.0.name j y hy e) in
+          absurd (omega arith)
       by false e rest = rest
 
-  rest_behind : (s : Saved) (ss : List Saved) (i : ℕ) → ComeInOrder layout (s ∷ ss)
-      → zone_place layout s.0.name ≡ Some i
-      → (k n : ℕ) (t : Saved) → slice_get ss k ≡ Some t → zone_place layout t.0.name ≡ Some n → i < n
-  rest_behind s ss i order place k n t e p = order 0 (suc k) i n s t (omega arith) refl e place p
+  rest_behind : (kind : Kind) (s : Saved) (ss : List Saved) (i : ℕ) → ComeInOrder layout (s ∷ ss)
+      → is_of kind s.0.name.kind ≡ true → zone_place layout s.0.name ≡ Some i
+      → (k n : ℕ) (t : Saved) → slice_get ss k ≡ Some t → is_of kind t.0.name.kind ≡ true
+      → zone_place layout t.0.name ≡ Some n → i < n
+  rest_behind kind s ss i order own place k n t e same p =
+      order 0 (suc k) i n s t (omega arith) refl e (both kind s.0.name.kind t.0.name.kind own same) place p
 
   rest_order : (s : Saved) (ss : List Saved) → ComeInOrder layout (s ∷ ss) → ComeInOrder layout ss
-  rest_order s ss order i j m n a b l ea eb pa pb = order (suc i) (suc j) m n a b (omega arith) ea eb pa pb
+  rest_order s ss order i j m n a b l ea eb same pa pb = order (suc i) (suc j) m n a b (omega arith) ea eb same pa pb
 
   -- ---- the order
 
-  own_log : (s : Saved) (ss : List Saved) (r : ZoneReading) (rs : List ZoneReading) → found s.1 ≡ r ∷ rs
-      → ComeInOrder layout (s ∷ ss) → HasPlace layout s r rs
-      → flat_map (λ (z : Zone). map (named z.name) (found_of (s ∷ ss) z)) layout
-      ≡ named s.0.name r ∷ flat_map (λ (z : Zone). map (named z.name) (found_of ss z)) layout
-  own_log s ss r rs e order has =
-      insert_at layout has.place has.at (λ (z : Zone). map (named z.name) (found_of (s ∷ ss) z))
-      (λ (z : Zone). map (named z.name) (found_of ss z)) (named s.0.name r) has.stands
-      (λ j y hy l.
-      let none : found_of ss y ≡ [] = behind_none ss has.place j y hy (omega arith) after in (
-        ap (map (named y.name)) (other j y hy (λ m. omega arith) ∙ none),
-        ap (map (named y.name)) none,
-      ))
-      (ap (map (named has.at.name)) here
+  own_log : (kind : Kind) (s : Saved) (ss : List Saved) (r : ZoneReading) (rs : List ZoneReading) → found s.1 ≡ r ∷ rs
+      → is_of kind s.0.name.kind ≡ true → ComeInOrder layout (s ∷ ss) → HasPlace layout s r rs
+      → flat_map (λ (z : Zone). named_of kind z.name (found_of (s ∷ ss) z)) layout
+      ≡ named s.0.name r ∷ flat_map (λ (z : Zone). named_of kind z.name (found_of ss z)) layout
+  own_log kind s ss r rs e own order has =
+      insert_at layout has.place has.at (λ (z : Zone). named_of kind z.name (found_of (s ∷ ss) z))
+      (λ (z : Zone). named_of kind z.name (found_of ss z)) (named s.0.name r) has.stands
+      (λ j y hy l. before j y hy l (is_of kind y.name.kind) refl)
+      (ap (named_of kind has.at.name) here
+      ∙ of_kind kind has.at.name (r ∷ []) at_own
       ∙ ap (λ n. named n r ∷ []) (sym (same_name s.0.name has.at has.own)))
-      (ap (map (named has.at.name)) none_here)
-      (λ j y hy l. ap (map (named y.name)) (other j y hy (λ m. omega arith)))
+      (ap (named_of kind has.at.name) none_here ∙ none_of kind has.at.name)
+      (λ j y hy l. ap (named_of kind y.name) (other j y hy (λ m. omega arith)))
     where
-      after : (k n : ℕ) (t : Saved) → slice_get ss k ≡ Some t → zone_place layout t.0.name ≡ Some n → has.place < n
-      after = rest_behind s ss has.place order has.place_is
+      at_own : is_of kind has.at.name.kind ≡ true
+      at_own = ap (λ (n : ZoneName). is_of kind n.kind) (sym (same_name s.0.name has.at has.own)) ∙ own
+
+      after : (k n : ℕ) (t : Saved) → slice_get ss k ≡ Some t → is_of kind t.0.name.kind ≡ true
+          → zone_place layout t.0.name ≡ Some n → has.place < n
+      after = rest_behind kind s ss has.place order own has.place_is
 
       other : (j : ℕ) (y : Zone) → slice_get layout j ≡ Some y → (has.place ≡ j → ⊥)
           → found_of (s ∷ ss) y ≡ found_of ss y
@@ -128,38 +159,69 @@ module _ (layout : List Zone) (are : AreNamed layout) where
           (not_there s.0.name has.place j y hy has.place_is ne)
 
       none_here : found_of ss has.at ≡ []
-      none_here = behind_none ss has.place has.place has.at has.stands (omega arith) after
+      none_here = behind_none kind ss has.place has.place has.at has.stands at_own (omega arith) after
 
       here : found_of (s ∷ ss) has.at ≡ r ∷ []
       here = ap (λ b. cond b (found s.1) [] ++ found_of ss has.at) has.own
           ∙ ap₂ (λ us vs. us ++ vs) (e ∙ ap (λ us. r ∷ us) has.alone) none_here
 
-  in_order : (zs : List Saved) → ComeInOrder layout zs
+      before : (j : ℕ) (y : Zone) → slice_get layout j ≡ Some y → j < has.place → (b : Bool)
+          → is_of kind y.name.kind ≡ b
+          → (named_of kind y.name (found_of (s ∷ ss) y) ≡ []) × (named_of kind y.name (found_of ss y) ≡ [])
+      before j y hy l true is =
+          let none : found_of ss y ≡ [] = behind_none kind ss has.place j y hy is (omega arith) after in (
+            ap (named_of kind y.name) (other j y hy (λ m. omega arith) ∙ none) ∙ none_of kind y.name,
+            ap (named_of kind y.name) none ∙ none_of kind y.name,
+          )
+      before j y hy l false is =
+          (of_other kind y.name (found_of (s ∷ ss) y) is, of_other kind y.name (found_of ss y) is)
+
+  -- a saved zone of another kind makes no difference
+  other_kind : (kind : Kind) (s : Saved) (ss : List Saved) → is_of kind s.0.name.kind ≡ false → (z : Zone)
+      → named_of kind z.name (found_of (s ∷ ss) z) ≡ named_of kind z.name (found_of ss z)
+  other_kind kind s ss off z = by (is_of kind z.name.kind) refl (is_zone s.0.name z) refl
+    where
+      by : (k : Bool) → is_of kind z.name.kind ≡ k → (b : Bool) → is_zone s.0.name z ≡ b
+          → named_of kind z.name (found_of (s ∷ ss) z) ≡ named_of kind z.name (found_of ss z)
+      by false k b e = of_other kind z.name (found_of (s ∷ ss) z) k ∙ sym (of_other kind z.name (found_of ss z) k)
+      by true k true e = absurd (true≢false (sym k ∙ ap (λ (n : ZoneName). is_of kind n.kind)
+          (sym (same_name s.0.name z e)) ∙ off))
+      by true k false e = ap (λ b. named_of kind z.name (cond b (found s.1) [] ++ found_of ss z)) e
+
+  in_order : (kind : Kind) (zs : List Saved) → ComeInOrder layout zs
       → ((k : ℕ) (s : Saved) (r : ZoneReading) (rs : List ZoneReading) → slice_get zs k ≡ Some s
       → found s.1 ≡ r ∷ rs → HasPlace layout s r rs)
-      → flat_map (λ (z : Zone). map (named z.name) (found_of zs z)) layout ≡ named_in zs
-  in_order [] order has = none_all layout
-  in_order (s ∷ ss) order has =
-      by (found s.1) refl (in_order ss (rest_order s ss order) (λ k t r rs e f. has (suc k) t r rs e f))
+      → flat_map (λ (z : Zone). named_of kind z.name (found_of zs z)) layout ≡ named_in kind zs
+  in_order kind [] order has = none_all kind layout
+  in_order kind (s ∷ ss) order has =
+      by (is_of kind s.0.name.kind) refl (found s.1) refl
+      (in_order kind ss (rest_order s ss order) (λ k t r rs e f. has (suc k) t r rs e f))
     where
-      by : (rs : List ZoneReading) → found s.1 ≡ rs
-          → flat_map (λ (z : Zone). map (named z.name) (found_of ss z)) layout ≡ named_in ss
-          → flat_map (λ (z : Zone). map (named z.name) (found_of (s ∷ ss) z)) layout ≡ named_in (s ∷ ss)
-      by [] e rest =
-          each_same (λ (z : Zone). map (named z.name) (found_of (s ∷ ss) z))
-          (λ (z : Zone). map (named z.name) (found_of ss z)) layout
-          (λ z. ap (λ rs. map (named z.name) (cond (is_zone s.0.name z) rs [] ++ found_of ss z)) e
-          ∙ ap (λ (rs : List ZoneReading). map (named z.name) (rs ++ found_of ss z)) (empty (is_zone s.0.name z)))
-          ∙ rest ∙ ap (λ rs. map (named s.0.name) rs ++ named_in ss) (sym e)
+      by : (k : Bool) → is_of kind s.0.name.kind ≡ k → (rs : List ZoneReading) → found s.1 ≡ rs
+          → flat_map (λ (z : Zone). named_of kind z.name (found_of ss z)) layout ≡ named_in kind ss
+          → flat_map (λ (z : Zone). named_of kind z.name (found_of (s ∷ ss) z)) layout ≡ named_in kind (s ∷ ss)
+      by false k rs e rest =
+          each_same (λ (z : Zone). named_of kind z.name (found_of (s ∷ ss) z))
+          (λ (z : Zone). named_of kind z.name (found_of ss z)) layout (other_kind kind s ss k)
+          ∙ rest ∙ ap (λ us. us ++ named_in kind ss) (sym (of_other kind s.0.name (found s.1) k))
+      by true k [] e rest =
+          each_same (λ (z : Zone). named_of kind z.name (found_of (s ∷ ss) z))
+          (λ (z : Zone). named_of kind z.name (found_of ss z)) layout
+          (λ z. ap (λ rs. named_of kind z.name (cond (is_zone s.0.name z) rs [] ++ found_of ss z)) e
+          ∙ ap (λ (rs : List ZoneReading). named_of kind z.name (rs ++ found_of ss z)) (empty (is_zone s.0.name z)))
+          ∙ rest
+          ∙ ap (λ us. us ++ named_in kind ss)
+          (sym (ap (named_of kind s.0.name) e ∙ none_of kind s.0.name))
         where
           empty : (b : Bool) → cond {A = List ZoneReading} b [] [] ≡ []
           empty true = refl
           empty false = refl
-      by (r ∷ rs) e rest =
+      by true k (r ∷ rs) e rest =
           let place : HasPlace layout s r rs = has 0 s r rs refl e in
-          own_log s ss r rs e order place
+          own_log kind s ss r rs e k order place
           ∙ ap (λ us. named s.0.name r ∷ us) rest
-          ∙ ap (λ us. map (named s.0.name) us ++ named_in ss) (sym (e ∙ ap (λ us. r ∷ us) place.alone))
+          ∙ ap (λ us. us ++ named_in kind ss)
+          (sym (of_kind kind s.0.name (found s.1) k ∙ ap (map (named s.0.name)) (e ∙ ap (λ us. r ∷ us) place.alone)))
 
   -- ---- one log
 
@@ -183,7 +245,10 @@ module _ (layout : List Zone) (are : AreNamed layout) where
       by : (b : Bool) → is_zone s.0.name z ≡ b → IsOneLog (found_of ss z)
           → IsOneLog (cond b (found s.1) [] ++ found_of ss z)
       by true e rest = one_in s.1 (found_of ss z) (bytes 0 s refl)
-          (behind_none ss i i z hz (omega arith) (rest_behind s ss i order (place_of s.0.name i z hz e)))
+          (behind_none z.name.kind ss i i z hz (kind_itself z.name.kind) (omega arith)
+          (rest_behind z.name.kind s ss i order
+          (ap (λ (n : ZoneName). is_of z.name.kind n.kind) (same_name s.0.name z e) ∙ kind_itself z.name.kind)
+          (place_of s.0.name i z hz e)))
       by false e rest = rest
 
 -- ---- the logs of the records that fit
@@ -262,10 +327,11 @@ module _ (layout : List Zone) (all : List Saved) where
       by false = tt
 
   kept_order : ComeInOrder layout all → ComeInOrder layout (map kept_of all)
-  kept_order order i j m n a b l ea eb pa pb =
+  kept_order order i j m n a b l ea eb same pa pb =
       let sa = from_map kept_of all i a ea in
       let sb = from_map kept_of all j b eb in
       order i j m n sa.0 sb.0 l sa.1 sb.1
+      (ap₂ (λ (s t : Saved). is_of s.0.name.kind t.0.name.kind) sa.2 sb.2 ∙ same)
       (ap (λ (s : Saved). zone_place layout s.0.name) sa.2 ∙ pa)
       (ap (λ (s : Saved). zone_place layout s.0.name) sb.2 ∙ pb)
 
@@ -285,5 +351,6 @@ module _ (layout : List Zone) (all : List Saved) where
 pub fitting_takes_in_order : FittingTakesInOrder
 fitting_takes_in_order layout zones are bytes order = record {
   one = one_log layout are (fitting layout zones) (kept_order layout zones order) (kept_have layout zones bytes);
-  order = in_order layout are (fitting layout zones) (kept_order layout zones order) (kept_places layout zones);
+  order = λ kind. in_order layout are kind (fitting layout zones) (kept_order layout zones order)
+      (kept_places layout zones);
 }

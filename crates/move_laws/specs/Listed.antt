@@ -1,11 +1,13 @@
 -- What a move carries over: the records that fit, and no other
-use Rattle.std.specs.Prelude.{◌≡◌, ℕ, ◌<◌, List, [], ◌∷◌, length, map, filter, flat_map, slice_get, Some}
+use Rattle.std.specs.Prelude.{◌≡◌, ℕ, ◌<◌, true, if◌then◌else◌, List, [], ◌∷◌, length, map, filter, flat_map}
+use Rattle.std.specs.Prelude.{slice_get, Some}
 use Rattle.std.specs.List.{AllByRecursion}
 use Rattle.zone_spec.specs.declared.Zone.{Zone}
 use Rattle.zone_spec.specs.declared.ZoneName.{ZoneName}
+use Rattle.zone_spec.specs.declared.Kind.{Kind}
 use Rattle.zone_spec.specs.Parts.{AreBytes}
 use Rattle.zone_spec.specs.Reading.{ZoneReading}
-use Rattle.zone_spec.specs.Records.{Saved, Listed, found, listed_of}
+use Rattle.zone_spec.specs.Records.{Saved, Listed, is_of, found, listed_of}
 use Rattle.zone_spec.specs.declared.params.Params.{Params}
 use Rattle.zone_spec.specs.Layout.{zones_of}
 use Rattle.zone_spec.specs.Layouts.{zone_place, IsLayout}
@@ -42,17 +44,21 @@ FittingLogsFit = (layout : List Zone) (zones : List Saved) → AreNamed layout �
 abbrev pub named : ZoneName → ZoneReading → ZoneName × List ℕ
 named name r = (name, r.log)
 
+-- the logs of readings, beside the name of their zone, if that is of this kind
+abbrev pub named_of : Kind → ZoneName → List ZoneReading → List (ZoneName × List ℕ)
+named_of kind name rs = if is_of kind name.kind then map (named name) rs else []
+
 -- at most one reading, and that of a log with bytes
 abbrev pub IsOneLog : List ZoneReading → Type 0
 IsOneLog [] = Unit {0}
 IsOneLog (r ∷ []) = 0 < length r.log
 IsOneLog (r ∷ s ∷ rs) = ⊥
 
--- a layout takes all saved logs in their order, at most one of them in each zone
+-- a layout takes all saved logs, those of each kind in their order, at most one of them in each zone
 pub record TakesInOrder (layout : List Zone) (zones : List Saved) : Type 0 where
   pub one : (i : ℕ) (z : Zone) → slice_get layout i ≡ Some z → IsOneLog (found_of zones z)
-  pub order : flat_map (λ (z : Zone). map (named z.name) (found_of zones z)) layout
-      ≡ flat_map (λ (zone : Saved). map (named zone.0.name) (found zone.1)) zones
+  pub order : (kind : Kind) → flat_map (λ (z : Zone). named_of kind z.name (found_of zones z)) layout
+      ≡ flat_map (λ (zone : Saved). named_of kind zone.0.name (found zone.1)) zones
 
 -- then a boot of the moved image lists the records of these logs
 abbrev pub MovedImageLists : Type 0
@@ -60,10 +66,10 @@ MovedImageLists = (layout : List Zone) (mem : ℕ) (zones : List Saved) → IsLa
     → TakesInOrder layout zones
     → listed_of (saved_logs layout (booted layout (moved layout mem zones))) ≡ listed_of zones
 
--- those of the saved zones that the layout has come in its order
+-- of each kind, those of the saved zones that the layout has come in its order
 abbrev pub ComeInOrder : List Zone → List Saved → Type 0
 ComeInOrder layout zones = (i j m n : ℕ) (a b : Saved) → i < j → slice_get zones i ≡ Some a → slice_get zones j ≡ Some b
-    → zone_place layout a.0.name ≡ Some m → zone_place layout b.0.name ≡ Some n
+    → is_of a.0.name.kind b.0.name.kind ≡ true → zone_place layout a.0.name ≡ Some m → zone_place layout b.0.name ≡ Some n
     → m < n
 
 -- then the layout takes the logs that a move carries over in their order
@@ -89,8 +95,8 @@ abbrev pub ImageLogsFit : Type 0
 ImageLogsFit = (old new : List Zone) (off : OffState) → AreNamed new → AreBytes off.image
     → LogsFit new (fitting new (saved_logs old (booted old off)))
 
--- after a boot under an old layout and a move to one whose zones have names of their own and come in the old
--- one's order, a boot lists the records that fit, as they were listed, and no other
+-- after a boot under an old layout and a move to one whose zones have names of their own, and those of each kind the
+-- old one's order, a boot lists the records that fit, as they were listed, and no other
 abbrev pub MoveKeepsRecords : Type 0
 MoveKeepsRecords = (old new : List Zone) (mem : ℕ) (off : OffState) → IsLayout new mem → AreNamed new
     → AreBytes off.image
@@ -99,7 +105,7 @@ MoveKeepsRecords = (old new : List Zone) (mem : ℕ) (off : OffState) → IsLayo
     → listed_of (saved_logs new (booted new (moved new mem (fitting new saved))))
     ≡ filter (λ (r : Listed). fits new saved r.name) (listed_of saved)
 
--- the zones of parameters come in one order: by kind, and by number
+-- the zones of a kind come in one order under all parameters: by number
 abbrev pub LayoutsComeInOrder : Type 0
 LayoutsComeInOrder = (p q : Params) (off : OffState)
     → ComeInOrder (zones_of q) (saved_logs (zones_of p) (booted (zones_of p) off))

@@ -43,7 +43,7 @@ pub fn fitting_logs_fit()
     ensures { FittingLogsFit }
 {}
 
-/// They come to those zones in their order, at most one to a zone.
+/// They come to those zones, those of each kind in their order, at most one to a zone.
 pub fn fitting_takes_in_order()
     ensures { FittingTakesInOrder }
 {}
@@ -73,7 +73,7 @@ pub fn move_keeps_records()
     ensures { MoveKeepsRecords }
 {}
 
-/// The zones of any two lists of parameters come in one order.
+/// The zones of a kind come in one order under any two lists of parameters.
 pub fn layouts_come_in_order()
     ensures { LayoutsComeInOrder }
 {}

@@ -6,6 +6,7 @@ use Rattle.zone_spec.specs.declared.params.Params.{Params}
 use Rattle.zone_spec.specs.declared.params.LayoutFault.{LayoutFault}
 use Rattle.zone_spec.specs.Layout.{layout_of}
 use Rattle.zone_spec.specs.LayoutFaults.{fault_number}
+use Rattle.grammar_spec.specs.ZoneWords.{order_at}
 use Rattle.ramoops_layout.specs.declared.finding.Found.{Found as FoundZone}
 use Rattle.ramoops_layout.specs.Found.{zone_named}
 use Rattle.oopsbox_c.specs.Places.{name_in, place_of, layout_answer, fault_answer}
@@ -31,6 +32,7 @@ params_in p = record {
   ecc_console = p.ecc_console;
   ecc_ftrace = p.ecc_ftrace;
   ecc_pmsg = p.ecc_pmsg;
+  order = order_at p.order;
 }
 
 -- the layout has a zone of this name, and both were told
@@ -54,12 +56,18 @@ pub record TellsNoLayout (params : Params) (after : LayoutAnswer) : Type 0 where
   pub is : layout_of params ≡ Err fault
   pub answer : after ≡ fault_answer (fault_number fault) 0
 
-abbrev pub ZoneAtEnds : End → Params → ℕ → ℕ → ZonePlace → ZonePlace → LayoutAnswer → LayoutAnswer → Type 0
-ZoneAtEnds Done params kind index old new before after = (kind ≤ 3) × TellsZone params (name_in kind index) new after
-ZoneAtEnds Fault params kind index old new before after = (kind ≤ 3) × TellsNoLayout params after × (new ≡ old)
-ZoneAtEnds Argument params kind index old new before after = ((3 < kind) ⊎ LacksZone params (name_in kind index))
-    × (new ≡ old) × (after ≡ before)
-ZoneAtEnds other params kind index old new before after = ⊥
+-- kind and order are numbers of one
+abbrev pub AreNumbered : ℕ → ℕ → Type 0
+AreNumbered kind order = (kind ≤ 3) × (order ≤ 1)
+
+abbrev pub ZoneAtEnds : End → LayoutParams → ℕ → ℕ → ZonePlace → ZonePlace → LayoutAnswer → LayoutAnswer → Type 0
+ZoneAtEnds Done p kind index old new before after = AreNumbered kind p.order
+    × TellsZone (params_in p) (name_in kind index) new after
+ZoneAtEnds Fault p kind index old new before after = AreNumbered kind p.order × TellsNoLayout (params_in p) after
+    × (new ≡ old)
+ZoneAtEnds Argument p kind index old new before after = ((3 < kind) ⊎ (1 < p.order)
+    ⊎ LacksZone (params_in p) (name_in kind index)) × (new ≡ old) × (after ≡ before)
+ZoneAtEnds other p kind index old new before after = ⊥
 
 -- a zone that was looked for
 pub record TellsFound (zone : Zone) (found : FoundZone) (new : ZonePlace) (after : LayoutAnswer) : Type 0 where

@@ -5,10 +5,11 @@ ghost use Rattle.oopsbox_c.specs.Layouts.{params_in, FoundEnds, ZoneAtEnds};
 
 use crate::End;
 use crate::places::{LayoutAnswer, ZonePlace, kind_in, place_of};
-use ramoops_layout::{Found, find};
+use ramoops_layout::{Found, find, order_at};
 use zone_spec::{Params, ZoneName};
 
-/// The parameters of a layout, in bytes, as those of [`Params`]. `unused` is not read.
+/// The parameters of a layout, in bytes, as those of [`Params`]. `order` is 0 where the ftrace zones lie before pmsg, as
+/// Linux 6.1 lays them out, and 1 where pmsg lies before them, as Linux 6.12 does.
 #[repr(C)]
 #[derive(Clone, Copy, Debug, Default, PartialEq, Eq)]
 pub struct LayoutParams {
@@ -25,7 +26,7 @@ pub struct LayoutParams {
     pub ecc_ftrace: u64,
     pub ecc_pmsg: u64,
     pub ftrace_sig: u32,
-    pub unused: u32,
+    pub order: u32,
 }
 
 fn params_in(params: &LayoutParams) -> Params
@@ -45,6 +46,7 @@ fn params_in(params: &LayoutParams) -> Params
         ecc_console: params.ecc_console,
         ecc_ftrace: params.ecc_ftrace,
         ecc_pmsg: params.ecc_pmsg,
+        order: order_at(params.order),
     }
 }
 
@@ -73,9 +75,9 @@ fn find_zone(
     place: &mut ZonePlace,
     answer: &mut LayoutAnswer,
 ) -> End
-    ensures { ZoneAtEnds result (params_in params.now) kind index place.old place.new answer.old answer.new }
+    ensures { ZoneAtEnds result params.now kind index place.old place.new answer.old answer.new }
 {
-    if kind > 3 {
+    if kind > 3 || params.order > 1 {
         return End::Argument;
     }
     let name = ZoneName {
@@ -106,7 +108,7 @@ pub extern "C" fn oopsbox_zone_at(
     answer: &mut LayoutAnswer,
 ) -> u32
     ensures { (end : End) × (result ≡ status_of end)
-        × ZoneAtEnds end (params_in params.now) kind index place.old place.new answer.old answer.new }
+        × ZoneAtEnds end params.now kind index place.old place.new answer.old answer.new }
 {
     let end = find_zone(params, kind, index, place, answer);
     end.status()

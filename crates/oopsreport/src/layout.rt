@@ -5,9 +5,10 @@ use dtb::ramoops_nodes;
 use found_regions::{first_address, place_asked};
 use grammar_spec::ParamFault;
 use kernel_line::{KernelLine, LineFault};
+use ramoops_layout::given;
 use report_entry::{Layouts, LayoutsFault, NoLayouts, Place, Said, layouts_by};
 use report_run::dressed;
-use report_tool::{Format, Found, Plan, add_tag, ftrace_tag};
+use report_tool::{Format, Found, Plan, add_order, add_tag, ftrace_tag, zone_order};
 use std::alloc::{AllocError, Global};
 use std::io::ErrorKind;
 use std::rt::Runtime;
@@ -87,6 +88,11 @@ fn add_params(
                 let fault = anyhow!("--kernel {version} is no version X.Y or X.Y.Z");
                 return Err(NoPlan::Words(fault));
             }
+        }
+        if given(words, "order").is_none()
+            && let Some(order) = zone_order(version)
+        {
+            add_order(alloc, words, order)?;
         }
     }
     Ok(())

@@ -1,5 +1,5 @@
 // The listed records with their contents, in time linear in the zones.
-ghost use Rattle.std.specs.Prelude.{◌≡◌, ◌++◌, IfOk};
+ghost use Rattle.std.specs.Prelude.{◌≡◌, [], ◌++◌, IfOk};
 ghost use Rattle.prz_read.specs.Saving.{saved};
 ghost use Rattle.zone_spec.specs.RecordsHeld.{record_held, records_held};
 ghost use Rattle.pstore_records.specs.Counts.{notice_with};
@@ -42,6 +42,19 @@ impl Model for HeldRecord {
 }
 
 impl HeldRecord {
+    /// A record of another store, which has no notice.
+    pub fn plain(name: Name, time: Option<Time>, content: Bytes) -> HeldRecord
+        ensures { result ≡ record { name = name; time = time; content = content; notice = [] } }
+    {
+        let end = content.len();
+        HeldRecord {
+            name,
+            time,
+            bytes: content,
+            end,
+        }
+    }
+
     /// The content without the notice.
     pub fn content(&self) -> &[u8]
         ensures { result.now ≡ self.now.content }

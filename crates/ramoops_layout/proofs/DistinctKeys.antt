@@ -11,8 +11,7 @@ use Rattle.std.proofs.lemmas.Bool.{and_parts}
 use Rattle.std.proofs.lemmas.Slice.Eq.{bytes_eq-Decides}
 use Rattle.grammar_spec.specs.declared.faults.ParamFault.{ParamFault}
 use Rattle.grammar_spec.specs.declared.faults.ParamFault.TheVariants.{UnknownKey, Twice, NotANumber}
-use Rattle.grammar_spec.specs.Numbers.{number_of}
-use Rattle.grammar_spec.specs.Words.{KeyTable, key_of, has_key, word_fault, first_fault, either, texts}
+use Rattle.grammar_spec.specs.Words.{KeyTable, key_of, has_key, value_of, word_fault, first_fault, either, texts}
 use Rattle.ramoops_layout.specs.declared.words.Keys.{Keys}
 use Rattle.ramoops_layout.specs.Keys.{table_of}
 use Rattle.ramoops_layout.proofs.WordLaws.{Words, next_word}
@@ -95,7 +94,8 @@ apart table words i place w h e none below =
     let earlier = texts (take i words) in
     let facts = three (not (list_any (λ key. has_key table key (string_bytes w)) table.names))
     (list_any (has_key table (key_of table (string_bytes w))) (texts (take i words)))
-    (is_none (number_of (after_first (λ c. c == 61) (string_bytes w)))) place (sym none) in
+    (is_none (value_of table (key_of table (string_bytes w)) (after_first (λ c. c == 61) (string_bytes w)))) place
+    (sym none) in
     let more = count_grows (λ key. list_any (has_key table key) (texts (take i words)))
     (λ key. has_key table key (string_bytes w)) table.names
     (λ key. own_key table (texts (take i words)) (string_bytes w) key facts.1) (not_false _ facts.0) in

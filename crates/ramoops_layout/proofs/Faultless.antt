@@ -10,13 +10,14 @@ use Rattle.std.proofs.lemmas.List.Elements.{All-from_recursion}
 use Rattle.zone_spec.specs.declared.Kind.{Kind}
 use Rattle.zone_spec.specs.declared.Kind.TheVariants.{Dump, Console, Ftrace, Pmsg}
 use Rattle.zone_spec.specs.declared.Zone.{Zone}
+use Rattle.zone_spec.specs.declared.params.Order.{Order}
+use Rattle.zone_spec.specs.declared.params.Order.TheVariants.{FtracePmsg, PmsgFtrace}
 use Rattle.zone_spec.specs.declared.params.Params.{Params}
 use Rattle.zone_spec.specs.declared.params.Row.{Row}
 use Rattle.zone_spec.specs.declared.params.LayoutFault.{LayoutFault}
 use Rattle.zone_spec.specs.Layout.{rounded, even, dump_memory, dump_count, one_row, rows, ecc_of, zone_at, zones_from}
-use Rattle.zone_spec.specs.Layout.{parameter_faults, first_fault}
+use Rattle.zone_spec.specs.Layout.{parameter_faults, first_fault, ftrace_row, ordered}
 use Rattle.ramoops_layout.specs.Rows.{taken, all_taken}
-use Rattle.ramoops_layout.proofs.PowersOfTwo.{rounded_le}
 
 clear : (b : Bool) (f : LayoutFault) (r : Option LayoutFault) → (if b then Some f else r) ≡ None
     → (b ≡ false) × (r ≡ None)
@@ -130,9 +131,7 @@ dump_within p = record {
     by true h = omega arith
     by false h = omega arith
 
-pub ftrace_within : (p : Params) → p.cpus ≤ 64 → Within (record
-    { kind = Ftrace; count = if rounded p.ftrace == 0 then 0 else p.cpus; size = even (rounded p.ftrace / p.cpus) })
-    (rounded p.ftrace)
+pub ftrace_within : (p : Params) → p.cpus ≤ 64 → Within (ftrace_row p) (rounded p.ftrace)
 ftrace_within p cpus = record {
   all = by (rounded p.ftrace == 0) (shared (rounded p.ftrace) p.cpus);
   each = omega (arith, even_le (rounded p.ftrace / p.cpus), div-le_self (rounded p.ftrace) p.cpus);
@@ -155,27 +154,36 @@ AreWithin most rows = AllByRecursion (λ row. Within row most) rows
 wider : (row : Row) (m n : ℕ) → m ≤ n → Within row m → Within row n
 wider row m n h w = record { all = omega (arith, w.all); each = omega (arith, w.each); count = omega (arith, w.count) }
 
+-- what holds of both of two rows holds in either order
+pub all_ordered : (P : Row → Type 0) (order : Order) (a b : Row) → P a → P b → AllByRecursion P (ordered order a b)
+all_ordered P FtracePmsg a b h k = (h, (k, tt))
+all_ordered P PmsgFtrace a b h k = (k, (h, tt))
+
+taken_ordered : (order : Order) (a b : Row) → all_taken (ordered order a b) ≡ taken a + taken b
+taken_ordered FtracePmsg a b = omega arith
+taken_ordered PmsgFtrace a b = omega arith
+
 pub rows_within : (p : Params) → IsFaultless p → AreWithin p.mem (rows p)
 rows_within p f =
     let room = f.room in (
       wider _ (dump_memory p) p.mem (omega arith) (dump_within p),
       (
         wider _ (rounded p.console) p.mem (omega arith) (one_within Console (rounded p.console)),
-        (
-          wider _ (rounded p.ftrace) p.mem (omega arith) (ftrace_within p f.cpus_most),
-          (wider _ (rounded p.pmsg) p.mem (omega arith) (one_within Pmsg (rounded p.pmsg)), tt),
-        ),
+        all_ordered (λ row. Within row p.mem) p.order (ftrace_row p) (one_row Pmsg (rounded p.pmsg))
+            (wider _ (rounded p.ftrace) p.mem (omega arith) (ftrace_within p f.cpus_most))
+            (wider _ (rounded p.pmsg) p.mem (omega arith) (one_within Pmsg (rounded p.pmsg))),
       ),
     )
 
 pub rows_total : (p : Params) → IsFaultless p → all_taken (rows p) ≤ p.mem
 rows_total p f = totals (dump_within p).all (one_within Console (rounded p.console)).all
     (ftrace_within p f.cpus_most).all (one_within Pmsg (rounded p.pmsg)).all f.room
+    (taken_ordered p.order (ftrace_row p) (one_row Pmsg (rounded p.pmsg)))
   where
-    totals : {a b c d : ℕ} → a ≤ dump_memory p → b ≤ rounded p.console → c ≤ rounded p.ftrace → d ≤ rounded p.pmsg
-        → rounded p.console + rounded p.ftrace + rounded p.pmsg ≤ p.mem
-        → a + (b + (c + (d + 0))) ≤ p.mem
-    totals u v w x room = omega arith
+    totals : {a b c d e : ℕ} → a ≤ dump_memory p → b ≤ rounded p.console → c ≤ rounded p.ftrace → d ≤ rounded p.pmsg
+        → rounded p.console + rounded p.ftrace + rounded p.pmsg ≤ p.mem → e ≡ c + d
+        → a + (b + e) ≤ p.mem
+    totals u v w x room same = omega arith
 
 pub mem_small : (p : Params) → IsFaultless p → p.mem ≤ 2 ^ 24
 mem_small p f = f.memory
@@ -216,16 +224,21 @@ tight_test room parity = by (nat_le room parity) refl
     by true h = sym (lt-ltb (room - parity) 64 (omega (arith, leb-true room parity h)))
     by false h = refl
 
--- the rows' sizes, by index
+-- what follows from lying within the memory holds of each row
+pub each_row : (p : Params) (P : Row → Type 0) → IsFaultless p → ((row : Row) → Within row p.mem → P row)
+    → AllByRecursion P (rows p)
+each_row p P f give = each (rows p) (rows_within p f)
+  where
+    each : (rows : List Row) → AreWithin p.mem rows → AllByRecursion P rows
+    each [] h = tt
+    each (row ∷ rows) h = (give row h.0, each rows h.1)
+
+-- the rows' sizes, in turn and by index
+pub each_small : (p : Params) → IsFaultless p → AllByRecursion (λ (row : Row). row.size ≤ 2 ^ 24) (rows p)
+each_small p f = each_row p (λ (row : Row). row.size ≤ 2 ^ 24) f (λ row w. omega (arith, w.each, mem_small p f))
+
 pub sizes_small : (p : Params) → IsFaultless p → All (λ (row : Row). row.size ≤ 2 ^ 24) (rows p)
-sizes_small p f = All-from_recursion (λ (row : Row). row.size ≤ 2 ^ 24) (rows p)
-    (let w = rows_within p f in let small = mem_small p f in (
-      omega (arith, w.0.each),
-      (
-        omega (arith, w.1.0.each),
-        (omega (arith, w.1.1.0.each), (omega (arith, w.1.1.1.0.each), tt)),
-      ),
-    ))
+sizes_small p f = All-from_recursion (λ (row : Row). row.size ≤ 2 ^ 24) (rows p) (each_small p f)
 
 -- the faults of the zones, by their rows
 pub small_rows : (p : Params) → list_any (λ (row : Row). nat_lt 0 row.count && nat_lt row.size 256) (rows p)

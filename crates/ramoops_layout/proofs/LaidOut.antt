@@ -15,7 +15,7 @@ use Rattle.zone_spec.specs.declared.params.LayoutFault.{LayoutFault}
 use Rattle.zone_spec.specs.Layout.{rows, zone_at, zones_from, parameter_faults, zone_faults, first_fault, ok_unless}
 use Rattle.zone_spec.specs.Layout.{layout_of}
 use Rattle.ramoops_layout.specs.Rows.{taken, all_taken, AreSmall}
-use Rattle.ramoops_layout.proofs.Faultless.{IsFaultless, rows_within, mem_small, sizes_small, rows_total}
+use Rattle.ramoops_layout.proofs.Faultless.{IsFaultless, each_row, mem_small, sizes_small, rows_total}
 
 pub first_append : (xs ys : List (Bool × LayoutFault)) → first_fault (xs ++ ys)
     ≡ option_or (first_fault xs) (first_fault ys)
@@ -92,13 +92,7 @@ rows_end p at rows i h = rw (drop_of_length-le rows h) refl
 
 counts_small : (p : Params) → IsFaultless p → All (λ (row : Row). row.count < 2 ^ 32) (rows p)
 counts_small p f = All-from_recursion (λ (row : Row). row.count < 2 ^ 32) (rows p)
-    (let w = rows_within p f in let small = mem_small p f in (
-      omega (arith, w.0.count),
-      (
-        omega (arith, w.1.0.count),
-        (omega (arith, w.1.1.0.count), (omega (arith, w.1.1.1.0.count), tt)),
-      ),
-    ))
+    (each_row p (λ (row : Row). row.count < 2 ^ 32) f (λ row w. omega (arith, w.count, mem_small p f)))
 
 pub rows_small : (p : Params) → IsFaultless p → AreSmall (rows p)
 rows_small p f = record {

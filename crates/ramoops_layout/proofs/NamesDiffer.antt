@@ -8,9 +8,11 @@ use Rattle.std.proofs.lemmas.Option.{slice_get_within}
 use Rattle.zone_spec.specs.declared.Kind.{Kind}
 use Rattle.zone_spec.specs.declared.Kind.TheVariants.{Dump, Console, Ftrace, Pmsg}
 use Rattle.zone_spec.specs.declared.Zone.{Zone}
+use Rattle.zone_spec.specs.declared.params.Order.{Order}
+use Rattle.zone_spec.specs.declared.params.Order.TheVariants.{FtracePmsg, PmsgFtrace}
 use Rattle.zone_spec.specs.declared.params.Params.{Params}
 use Rattle.zone_spec.specs.declared.params.Row.{Row}
-use Rattle.zone_spec.specs.Layout.{rows, zone_at, zones_from, layout_of}
+use Rattle.zone_spec.specs.Layout.{rows, zone_at, zones_from, layout_of, rounded, one_row, ftrace_row, ordered}
 use Rattle.zone_spec.specs.Layouts.{is_zone}
 use Rattle.zone_spec.specs.Records.{is_of}
 use Rattle.ramoops_layout.specs.Laid.{NamesDiffer}
@@ -76,82 +78,93 @@ row_apart p row at from (suc n) = (row_later p row at from (from + 1) n (omega a
 
 -- ---- rows of different kinds
 
-rank : Kind → ℕ
-rank Dump = 0
-rank Console = 1
-rank Ftrace = 2
-rank Pmsg = 3
+abbrev rank_of_ftrace : Order → ℕ
+rank_of_ftrace FtracePmsg = 2
+rank_of_ftrace PmsgFtrace = 3
 
-differ : (k l : Kind) → rank k < rank l → is_of l k ≡ false
-unfolding rank
-differ Dump Dump h = absurd (omega (arith, h))
-differ Dump Console h = refl
-differ Dump Ftrace h = refl
-differ Dump Pmsg h = refl
-differ Console Dump h = absurd (omega (arith, h))
-differ Console Console h = absurd (omega (arith, h))
-differ Console Ftrace h = refl
-differ Console Pmsg h = refl
-differ Ftrace Dump h = absurd (omega (arith, h))
-differ Ftrace Console h = absurd (omega (arith, h))
-differ Ftrace Ftrace h = absurd (omega (arith, h))
-differ Ftrace Pmsg h = refl
-differ Pmsg Dump h = absurd (omega (arith, h))
-differ Pmsg Console h = absurd (omega (arith, h))
-differ Pmsg Ftrace h = absurd (omega (arith, h))
-differ Pmsg Pmsg h = absurd (omega (arith, h))
+abbrev rank_of_pmsg : Order → ℕ
+rank_of_pmsg FtracePmsg = 3
+rank_of_pmsg PmsgFtrace = 2
+
+-- a kind's place in an order
+abbrev rank : Order → Kind → ℕ
+rank o Dump = 0
+rank o Console = 1
+rank o Ftrace = rank_of_ftrace o
+rank o Pmsg = rank_of_pmsg o
+
+differ : (o : Order) (k l : Kind) → rank o k < rank o l → is_of l k ≡ false
+differ o Dump Dump h = absurd (omega (arith, h))
+differ o Dump Console h = refl
+differ o Dump Ftrace h = refl
+differ o Dump Pmsg h = refl
+differ o Console Dump h = refl
+differ o Console Console h = absurd (omega (arith, h))
+differ o Console Ftrace h = refl
+differ o Console Pmsg h = refl
+differ o Ftrace Dump h = refl
+differ o Ftrace Console h = refl
+differ o Ftrace Ftrace h = absurd (omega (arith, h))
+differ o Ftrace Pmsg h = refl
+differ o Pmsg Dump h = refl
+differ o Pmsg Console h = refl
+differ o Pmsg Ftrace h = refl
+differ o Pmsg Pmsg h = absurd (omega (arith, h))
 
 -- the kinds rise from this rank on
-abbrev Rising : ℕ → List Row → Type 0
-Rising low [] = Unit {0}
-Rising low (row ∷ rows) = (low ≤ rank row.kind) × Rising (rank row.kind + 1) rows
+abbrev Rising : Order → ℕ → List Row → Type 0
+Rising o low [] = Unit {0}
+Rising o low (row ∷ rows) = (low ≤ rank o row.kind) × Rising o (rank o row.kind + 1) rows
 
-abbrev From : ℕ → List Zone → Type 0
-From low zones = AllByRecursion (λ (z : Zone). low ≤ rank z.name.kind) zones
+abbrev From : Order → ℕ → List Zone → Type 0
+From o low zones = AllByRecursion (λ (z : Zone). low ≤ rank o z.name.kind) zones
 
-row_from : (p : Params) (row : Row) (low at from n : ℕ) → low ≤ rank row.kind
-    → From low (map (λ i. zone_at p row.kind row.size i (at + i * row.size)) (range_with_len from n))
-row_from p row low at from zero h = tt
-row_from p row low at from (suc n) h = (h, row_from p row low at (from + 1) n h)
+row_from : (p : Params) (o : Order) (row : Row) (low at from n : ℕ) → low ≤ rank o row.kind
+    → From o low (map (λ i. zone_at p row.kind row.size i (at + i * row.size)) (range_with_len from n))
+row_from p o row low at from zero h = tt
+row_from p o row low at from (suc n) h = (h, row_from p o row low at (from + 1) n h)
 
-apart_behind : (kind : Kind) (first : Zone) (zones : List Zone) → first.name.kind ≡ kind → From (rank kind + 1) zones
-    → ApartFrom first zones
-apart_behind kind first zones e h = all_map (λ (z : Zone). rank kind + 1 ≤ rank z.name.kind)
-    (λ (z : Zone). is_zone z.name first ≡ false) (λ z le. by z (differ kind z.name.kind (omega (arith, le)))) zones h
+apart_behind : (o : Order) (kind : Kind) (first : Zone) (zones : List Zone) → first.name.kind ≡ kind
+    → From o (rank o kind + 1) zones → ApartFrom first zones
+apart_behind o kind first zones e h = all_map (λ (z : Zone). rank o kind + 1 ≤ rank o z.name.kind)
+    (λ (z : Zone). is_zone z.name first ≡ false) (λ z le. by z (differ o kind z.name.kind (omega (arith, le)))) zones h
   where
     by : (z : Zone) → is_of z.name.kind kind ≡ false → is_zone z.name first ≡ false
     by z f = cc (e, f)
 
-row_behind : (p : Params) (row : Row) (at from n : ℕ) (zones : List Zone) → From (rank row.kind + 1) zones
+row_behind : (p : Params) (o : Order) (row : Row) (at from n : ℕ) (zones : List Zone) → From o (rank o row.kind + 1) zones
     → AllByRecursion (λ (x : Zone). ApartFrom x zones) (map (λ i. zone_at p row.kind row.size i (at + i * row.size))
     (range_with_len from n))
-row_behind p row at from zero zones h = tt
-row_behind p row at from (suc n) zones h = (
-  apart_behind row.kind
+row_behind p o row at from zero zones h = tt
+row_behind p o row at from (suc n) zones h = (
+  apart_behind o row.kind
       (zone_at p row.kind row.size from (at + from * row.size)) zones refl h,
-  row_behind p row at (from + 1) n zones h,
+  row_behind p o row at (from + 1) n zones h,
 )
 
-weaker : (low high : ℕ) (zones : List Zone) → low ≤ high → From high zones → From low zones
-weaker low high zones le h = all_map (λ (z : Zone). high ≤ rank z.name.kind) (λ (z : Zone). low ≤ rank z.name.kind)
+weaker : (o : Order) (low high : ℕ) (zones : List Zone) → low ≤ high → From o high zones → From o low zones
+weaker o low high zones le h = all_map (λ (z : Zone). high ≤ rank o z.name.kind) (λ (z : Zone). low ≤ rank o z.name.kind)
     (λ z k. omega (arith, le, k)) zones h
 
-rows_apart : (p : Params) (low at : ℕ) (rows : List Row) → Rising low rows
-    → Apart (zones_from p at rows) × From low (zones_from p at rows)
+rows_apart : (p : Params) (o : Order) (low at : ℕ) (rows : List Row) → Rising o low rows
+    → Apart (zones_from p at rows) × From o low (zones_from p at rows)
 unfolding zones_from
-rows_apart p low at [] h = (tt, tt)
-rows_apart p low at (row ∷ rows) h =
-    let rest = rows_apart p (rank row.kind + 1) (at + taken row) rows h.1 in (
+rows_apart p o low at [] h = (tt, tt)
+rows_apart p o low at (row ∷ rows) h =
+    let rest = rows_apart p o (rank o row.kind + 1) (at + taken row) rows h.1 in (
       apart_append (of_row p row at) (zones_from p (at + taken row) rows) (row_apart p row at 0 row.count) rest.0
-          (row_behind p row at 0 row.count (zones_from p (at + taken row) rows) rest.1),
-      all_append (λ (z : Zone). low ≤ rank z.name.kind) (of_row p row at) (zones_from p (at + taken row) rows)
-          (row_from p row low at 0 row.count h.0)
-          (weaker low (rank row.kind + 1) (zones_from p (at + taken row) rows) (omega (arith, h.0)) rest.1),
+          (row_behind p o row at 0 row.count (zones_from p (at + taken row) rows) rest.1),
+      all_append (λ (z : Zone). low ≤ rank o z.name.kind) (of_row p row at) (zones_from p (at + taken row) rows)
+          (row_from p o row low at 0 row.count h.0)
+          (weaker o low (rank o row.kind + 1) (zones_from p (at + taken row) rows) (omega (arith, h.0)) rest.1),
     )
 
-all_rising : (p : Params) → Rising 0 (rows p)
-unfolding rank
-all_rising p = (omega arith, (omega arith, (omega arith, (omega arith, tt))))
+rising : (p : Params) (o : Order) → Rising o 2 (ordered o (ftrace_row p) (one_row Pmsg (rounded p.pmsg)))
+rising p FtracePmsg = (omega arith, (omega arith, tt))
+rising p PmsgFtrace = (omega arith, (omega arith, tt))
+
+all_rising : (p : Params) → Rising p.order 0 (rows p)
+all_rising p = (omega arith, (omega arith, rising p p.order))
 
 -- ---- the place of a zone of a name
 
@@ -178,7 +191,7 @@ place_is (x ∷ zones) (suc i) z h e =
 pub names_differ : (p : Params) (zones : List Zone) → layout_of p ≡ Ok zones → NamesDiffer zones
 names_differ p zones h i z e =
     let n = no_fault p zones h in
-    let apart = rw n.same at (rows_apart p 0 0 (rows p) (all_rising p)).0 in
+    let apart = rw n.same at (rows_apart p p.order 0 0 (rows p) (all_rising p)).0 in
     let at : position_or_len (is_zone z.name) zones ≡ i = place_is zones i z apart e in
     if_true (nat_lt (position_or_len (is_zone z.name) zones) (length zones))
     (Some (position_or_len (is_zone z.name) zones)) None

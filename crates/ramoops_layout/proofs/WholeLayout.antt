@@ -13,16 +13,20 @@ use Rattle.std.proofs.lemmas.List.Sums.{sum_by-append, sum_by-cons}
 use Rattle.zone_spec.specs.declared.Kind.{Kind}
 use Rattle.zone_spec.specs.declared.Kind.TheVariants.{Dump, Console, Ftrace, Pmsg}
 use Rattle.zone_spec.specs.declared.Zone.{Zone}
+use Rattle.zone_spec.specs.declared.params.Order.{Order}
+use Rattle.zone_spec.specs.declared.params.Order.TheVariants.{FtracePmsg, PmsgFtrace}
 use Rattle.zone_spec.specs.declared.params.Params.{Params}
 use Rattle.zone_spec.specs.declared.params.Row.{Row}
 use Rattle.zone_spec.specs.declared.params.LayoutFault.{LayoutFault}
 use Rattle.zone_spec.specs.Zones.{IsValidZone}
 use Rattle.zone_spec.specs.Layouts.{zones_end, IsLayout}
 use Rattle.zone_spec.specs.Layout.{rows, zone_at, zones_from, parameter_faults, zone_faults, first_fault, ok_unless}
-use Rattle.zone_spec.specs.Layout.{layout_of, ecc_of, tag_of}
+use Rattle.zone_spec.specs.Layout.{layout_of, ecc_of, tag_of, rounded, dump_row, one_row, ftrace_row}
+use Rattle.zone_spec.specs.Layout.{ordered}
 use Rattle.ramoops_layout.specs.Rows.{taken, all_taken}
 use Rattle.ramoops_layout.proofs.Faultless.{IsFaultless, faultless, rows_total, mem_small, rows_within, parity_within}
 use Rattle.ramoops_layout.proofs.Faultless.{block_at_most, each_clear, or_clear, small_rows, any_in_rows}
+use Rattle.ramoops_layout.proofs.Faultless.{AreWithin, each_small}
 use Rattle.ramoops_layout.proofs.LaidOut.{by_faults, of_row}
 
 -- what an answer of zones says of the faults
@@ -70,19 +74,29 @@ length_zones p at (row ∷ rows) =
       length_zones p (at + taken row) rows,
     )
 
+count_within : (most : ℕ) (rows : List Row) → most ≤ 2 ^ 24 → AreWithin most rows
+    → all_count rows ≤ length rows * 2 ^ 25
+count_within most [] small h = omega arith
+count_within most (row ∷ rows) small h = omega (arith, small, h.0.count, count_within most rows small h.1)
+
+four_rows : (p : Params) → length (rows p) ≡ 4
+four_rows p = by p.order
+  where
+    by : (order : Order) → length (dump_row p ∷ one_row Console (rounded p.console) ∷ ordered order (ftrace_row p)
+        (one_row Pmsg (rounded p.pmsg))) ≡ 4
+    by FtracePmsg = refl
+    by PmsgFtrace = refl
+
 -- there are few enough zones
 pub layout_short : (p : Params) (zones : List Zone) → layout_of p ≡ Ok zones → length zones < 2 ^ 32
 layout_short p zones h =
-    let n = no_fault p zones h in let f = faultless p n.of_parameters in let w = rows_within p f in
+    let n = no_fault p zones h in let f = faultless p n.of_parameters in
     omega (
       arith,
       ap (length {A = Zone}) n.same,
       length_zones p 0 (rows p),
-      mem_small p f,
-      w.0.count,
-      w.1.0.count,
-      w.1.1.0.count,
-      w.1.1.1.0.count,
+      four_rows p,
+      count_within p.mem (rows p) (mem_small p f) (rows_within p f),
     )
 
 -- ---- valid zones in order
@@ -230,14 +244,7 @@ whole_layout p zones tag h =
     let n = no_fault p zones h in
     let f = faultless p n.of_parameters in
     let faults = each_clear (zone_faults (zones_from p 0 (rows p))) n.of_zones in
-    let w = rows_within p f in let small = mem_small p f in
-    let sizes : AllByRecursion (λ (row : Row). row.size ≤ 2 ^ 24) (rows p) = (
-      omega (arith, w.0.each),
-      (
-        omega (arith, w.1.0.each),
-        (omega (arith, w.1.1.0.each), (omega (arith, w.1.1.1.0.each), tt)),
-      ),
-    ) in
+    let sizes = each_small p f in
     let large = none_any (λ (row : Row). nat_lt 0 row.count && nat_lt row.size 256) (rows p)
     (small_rows p ∙ faults.0) in
     let roomy = none_any (λ (row : Row). nat_lt 0 row.count && tight p row) (rows p)

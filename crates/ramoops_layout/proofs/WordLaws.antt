@@ -1,15 +1,16 @@
 -- Words: their keys, the values that they give, and their faults
 use Rattle.std.proofs.Common.{◌≡◌, ℕ, suc, ◌+◌, ◌<◌, ◌≤◌, ◌==◌, Bool, true, false, not, ◌&&◌, ◌||◌, if◌then◌else◌, List}
 use Rattle.std.proofs.Common.{[], ◌∷◌, length, drop, map, Option, Some, None, refl, sym, ap, ◌∙◌, arith, add-one, Bor}
-use Rattle.std.proofs.Common.{get_or, drop-cons, bytes_eq, string_bytes, is_some, is_none, String, Global}
+use Rattle.std.proofs.Common.{nat_lt, position, get_or, drop-cons, bytes_eq, string_bytes, is_some, is_none, String, Global}
 use Rattle.std.specs.Option.{option_map, option_copied, option_and_then}
 use Rattle.std.specs.List.{list_any, find, position_or_len, after_first}
 use Rattle.std.proofs.Math.ListN.{drop_of_length-le}
+use Rattle.std.proofs.lemmas.List.{length-map}
 use Rattle.std.proofs.lemmas.Bool.{and_left, le-ltb}
 use Rattle.std.proofs.lemmas.Str.Pattern.{split_once_first, IsSplitOnceResult}
 use Rattle.grammar_spec.specs.declared.faults.ParamFault.TheVariants.{UnknownKey, Twice, NotANumber}
-use Rattle.grammar_spec.specs.Numbers.{number_of}
-use Rattle.grammar_spec.specs.Words.{KeyTable, key_of, has_key, IsSplit, value_text, given, word_fault, texts}
+use Rattle.grammar_spec.specs.Words.{KeyTable, key_of, has_key, IsSplit, value_text, value_of, given, word_fault}
+use Rattle.grammar_spec.specs.Words.{texts}
 use Rattle.ramoops_layout.proofs.Texts.{if_true, if_false, any_before_end}
 
 -- a word without a separator
@@ -55,6 +56,20 @@ pub any_seen : (test : List ℕ → Bool) (names : List (Bor (List ℕ)))
 any_seen test [] = refl
 any_seen test (name ∷ names) = ap (λ t. test name.now || t) (any_seen test names)
 
+-- so is the place of the first that passes
+first_seen : (test : List ℕ → Bool) (names : List (Bor (List ℕ)))
+    → position_or_len (λ name. test name.now) names ≡ position_or_len test (map (λ name. name.now) names)
+first_seen test [] = refl
+first_seen test (name ∷ names) = ap (λ n. if not (test name.now) then 1 + n else 0) (first_seen test names)
+
+pub place_seen : (test : List ℕ → Bool) (names : List (Bor (List ℕ)))
+    → position (λ name. test name.now) names ≡ position test (map (λ name. name.now) names)
+place_seen test names =
+    let seen : List (List ℕ) = map (λ name. name.now) names in
+    ap (λ n. if nat_lt n (length names) then Some n else None) (first_seen test names)
+    ∙ ap (λ m. if nat_lt (position_or_len test seen) m then Some (position_or_len test seen) else None)
+    (sym (length-map names (λ (name : Bor (List ℕ)). name.now)))
+
 -- a word without a separator gives no key
 none_given : (table : KeyTable) (names : List (List ℕ)) (word : List ℕ) → list_any (λ c. c == 61) word ≡ false
     → list_any (λ key. has_key table key word) names ≡ false
@@ -79,14 +94,14 @@ unknown_fault table earlier place word own text s h =
 known : (table : KeyTable) (earlier : List (List ℕ)) (place : ℕ) (word own text : List ℕ)
     → IsSplit table word own text → list_any (λ key. bytes_eq key own) table.names ≡ true
     → word_fault table earlier place word ≡ (if list_any (has_key table own) earlier then Some (Twice place) else
-    (if is_none (number_of text) then Some (NotANumber place) else None))
+    (if is_none (value_of table own text) then Some (NotANumber place) else None))
 known table earlier place word own text s h =
     if_false (not (list_any (λ key. has_key table key word) table.names)) _ _
     (ap not (any_known table table.names word own text s ∙ h))
     ∙ ap (λ (key : List ℕ). if list_any (has_key table key) earlier then Some (Twice place) else
-    (if is_none (number_of (after_first (λ c. c == 61) word)) then Some (NotANumber place) else None)) s.named
+    (if is_none (value_of table key (after_first (λ c. c == 61) word)) then Some (NotANumber place) else None)) s.named
     ∙ ap (λ (t : List ℕ). if list_any (has_key table own) earlier then Some (Twice place) else
-    (if is_none (number_of t) then Some (NotANumber place) else None)) s.valued
+    (if is_none (value_of table own t) then Some (NotANumber place) else None)) s.valued
 
 is_some_copied : (r : Option (Bor (List ℕ))) → is_some (option_copied r) ≡ is_some r
 is_some_copied None = refl
@@ -103,7 +118,7 @@ twice_fault table earlier place word own text r s h v t =
 new_key : (table : KeyTable) (earlier : List (List ℕ)) (place : ℕ) (word own text : List ℕ)
     (r : Option (Bor (List ℕ))) → IsSplit table word own text → list_any (λ key. bytes_eq key own) table.names ≡ true
     → option_copied r ≡ value_text table earlier own → is_some r ≡ false
-    → word_fault table earlier place word ≡ (if is_none (number_of text) then Some (NotANumber place) else None)
+    → word_fault table earlier place word ≡ (if is_none (value_of table own text) then Some (NotANumber place) else None)
 new_key table earlier place word own text r s h v t =
     known table earlier place word own text s h ∙ if_false (list_any (has_key table own) earlier) _ _
     (sym (any_given table earlier own) ∙ sym (ap is_some v) ∙ is_some_copied r ∙ t)
@@ -111,19 +126,19 @@ new_key table earlier place word own text r s h v t =
 pub number_fault : (table : KeyTable) (earlier : List (List ℕ)) (place : ℕ) (word own text : List ℕ)
     (r : Option (Bor (List ℕ))) (n : Option ℕ) → IsSplit table word own text
     → list_any (λ key. bytes_eq key own) table.names ≡ true
-    → option_copied r ≡ value_text table earlier own → is_some r ≡ false → n ≡ number_of text → is_some n ≡ false
+    → option_copied r ≡ value_text table earlier own → is_some r ≡ false → n ≡ value_of table own text → is_some n ≡ false
     → Some (NotANumber place) ≡ word_fault table earlier place word
 number_fault table earlier place word own text r n s h v t e bad =
-    sym (new_key table earlier place word own text r s h v t ∙ if_true (is_none (number_of text)) _ _
+    sym (new_key table earlier place word own text r s h v t ∙ if_true (is_none (value_of table own text)) _ _
     (ap not (sym (ap is_some e) ∙ bad)))
 
 pub no_fault : (table : KeyTable) (earlier : List (List ℕ)) (place : ℕ) (word own text : List ℕ)
     (r : Option (Bor (List ℕ))) (n : Option ℕ) → IsSplit table word own text
     → list_any (λ key. bytes_eq key own) table.names ≡ true
-    → option_copied r ≡ value_text table earlier own → is_some r ≡ false → n ≡ number_of text → is_some n ≡ true
+    → option_copied r ≡ value_text table earlier own → is_some r ≡ false → n ≡ value_of table own text → is_some n ≡ true
     → None ≡ word_fault table earlier place word
 no_fault table earlier place word own text r n s h v t e good =
-    sym (new_key table earlier place word own text r s h v t ∙ if_false (is_none (number_of text)) _ _
+    sym (new_key table earlier place word own text r s h v t ∙ if_false (is_none (value_of table own text)) _ _
     (ap not (sym (ap is_some e) ∙ good)))
 
 abbrev pub Words : Type 0
@@ -168,12 +183,12 @@ unfolding value_text
 value_end table words i key h = rw (drop_of_length-le words h) refl
 
 pub given_some : (table : KeyTable) (words : List (List ℕ)) (key : List ℕ) (r : Option (Bor (List ℕ)))
-    (x : Bor (List ℕ)) → option_copied r ≡ value_text table words key → r ≡ Some x → number_of x.now ≡ given table words
-    key
+    (x : Bor (List ℕ)) → option_copied r ≡ value_text table words key → r ≡ Some x
+    → value_of table key x.now ≡ given table words key
 unfolding given
-given_some table words key r x v e = ap (option_and_then number_of) (sym (ap option_copied e) ∙ v)
+given_some table words key r x v e = ap (option_and_then (value_of table key)) (sym (ap option_copied e) ∙ v)
 
 pub given_none : (table : KeyTable) (words : List (List ℕ)) (key : List ℕ) (r : Option (Bor (List ℕ)))
     → option_copied r ≡ value_text table words key → r ≡ None → None ≡ given table words key
 unfolding given
-given_none table words key r v e = ap (option_and_then number_of) (sym (ap option_copied e) ∙ v)
+given_none table words key r v e = ap (option_and_then (value_of table key)) (sym (ap option_copied e) ∙ v)

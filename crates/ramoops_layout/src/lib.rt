@@ -16,6 +16,6 @@ pub use finding::{Found, find};
 pub use grammar_spec::ParamFault;
 pub use laying::{layout, list_zones};
 pub use numbers::number;
-pub use params::{DEFAULTS, given, parity_given, read_words, read_words_over};
+pub use params::{DEFAULTS, given, order_at, parity_given, read_words, read_words_over};
 pub use words::Keys;
-pub use zone_spec::{Kind, LayoutFault, Params, Zone, ZoneName};
+pub use zone_spec::{Kind, LayoutFault, Order, Params, Zone, ZoneName};

@@ -3,11 +3,12 @@ ghost use Rattle.std.specs.Prelude.{◌≡◌, ℕ, codes, unwrap_or};
 ghost use Rattle.std.specs.Option.{option_map};
 ghost use Rattle.grammar_spec.specs.Words.{texts};
 ghost use Rattle.grammar_spec.specs.ZoneWords.{given, parity_of, parity_given, memory_of, params_by, read_by, read_of};
+ghost use Rattle.grammar_spec.specs.ZoneWords.{with_sizes, with_parities, with_order, order_at as order_of};
 
 use crate::Keys;
 use crate::rows::{MOST_MEMORY, rounded};
 use grammar_spec::ParamFault;
-use zone_spec::Params;
+use zone_spec::{Order, Params};
 
 const KEYS: Keys = Keys {
     prefix: "ramoops.",
@@ -25,7 +26,10 @@ const KEYS: Keys = Keys {
         "ecc_console",
         "ecc_ftrace",
         "ecc_pmsg",
+        "order",
     ],
+    choice: "order",
+    choices: &["console,ftrace,pmsg", "console,pmsg,ftrace"],
 };
 
 /// What the module takes where no word is given.
@@ -43,6 +47,7 @@ pub const DEFAULTS: Params = Params {
     ecc_console: 0,
     ecc_ftrace: 0,
     ecc_pmsg: 0,
+    order: Order::FtracePmsg,
 };
 
 // The number that the words give a key.
@@ -69,6 +74,27 @@ fn parity(words: &[String], key: &str, absent: u64) -> u64
     parity_given(words, key).unwrap_or(absent)
 }
 
+/// The order of this number: 0 is that of Linux 6.1, any other that of Linux 6.12.
+pub fn order_at(place: u32) -> Order
+    ensures { result ≡ order_of place }
+{
+    if place == 0 {
+        Order::FtracePmsg
+    } else {
+        Order::PmsgFtrace
+    }
+}
+
+// The order that the words give.
+fn order(words: &[String], absent: Order) -> Order
+    ensures { result ≡ unwrap_or (option_map order_of (given (texts words.now) (codes "order"))) absent }
+{
+    match KEYS.given(words, "order") {
+        Some(place) => order_at(place),
+        None => absent,
+    }
+}
+
 // The image's bytes as the project reads a `mem_size`.
 fn rounded_memory(size: u64) -> u64
     ensures { result ≡ memory_of size }
@@ -90,10 +116,9 @@ fn memory(words: &[String], absent: u64) -> u64
     }
 }
 
-// The parameters of an image of so many bytes.
-fn params(words: &[String], mem: u64, absent: &Params) -> Params
+fn with_sizes(words: &[String], mem: u64, absent: &Params) -> Params
     ensures { (memory : ℕ → ℕ) → mem ≡ unwrap_or (option_map memory (given (texts words.now) (codes "mem_size")))
-        absent.now.mem → result ≡ params_by memory absent.now (texts words.now) }
+        absent.now.mem → result ≡ with_sizes memory (texts words.now) absent.now }
 {
     Params {
         mem,
@@ -101,10 +126,18 @@ fn params(words: &[String], mem: u64, absent: &Params) -> Params
         console: number(words, "console_size", absent.console),
         ftrace: number(words, "ftrace_size", absent.ftrace),
         pmsg: number(words, "pmsg_size", absent.pmsg),
-        ecc: parity(words, "ecc", absent.ecc),
         cpus: number(words, "cpus", absent.cpus),
         ftrace_sig: KEYS.given(words, "ftrace_sig").unwrap_or(absent.ftrace_sig),
         block: number(words, "block_size", absent.block),
+        ..*absent
+    }
+}
+
+fn with_parities(words: &[String], absent: &Params) -> Params
+    ensures { result ≡ with_parities (texts words.now) absent.now }
+{
+    Params {
+        ecc: parity(words, "ecc", absent.ecc),
         ecc_dump: parity(words, "ecc_dump", parity(words, "ecc", absent.ecc_dump)),
         ecc_console: parity(
             words,
@@ -113,7 +146,27 @@ fn params(words: &[String], mem: u64, absent: &Params) -> Params
         ),
         ecc_ftrace: parity(words, "ecc_ftrace", parity(words, "ecc", absent.ecc_ftrace)),
         ecc_pmsg: parity(words, "ecc_pmsg", parity(words, "ecc", absent.ecc_pmsg)),
+        ..*absent
     }
+}
+
+fn with_order(words: &[String], absent: &Params) -> Params
+    ensures { result ≡ with_order (texts words.now) absent.now }
+{
+    Params {
+        order: order(words, absent.order),
+        ..*absent
+    }
+}
+
+// The parameters of an image of so many bytes.
+fn params(words: &[String], mem: u64, absent: &Params) -> Params
+    ensures { (memory : ℕ → ℕ) → mem ≡ unwrap_or (option_map memory (given (texts words.now) (codes "mem_size")))
+        absent.now.mem → result ≡ params_by memory absent.now (texts words.now) }
+{
+    let sized = with_sizes(words, mem, absent);
+    let coded = with_parities(words, &sized);
+    with_order(words, &coded)
 }
 
 /// The parameters of these words (`fs/pstore/ram.c`, `module_param`), each word `key=value`. The key may carry the

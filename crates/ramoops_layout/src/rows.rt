@@ -3,12 +3,14 @@ ghost use Rattle.std.specs.Prelude.{◌≡◌, ℕ, ◌≤◌, ◌<◌, ◌^◌,
 ghost use Rattle.std.specs.List.{All, list_any, list_all};
 ghost use Rattle.zone_spec.specs.Layout.{rounded as rounded_of, ecc_of, rows as rows_of, zone_at as zone_of};
 ghost use Rattle.zone_spec.specs.Layout.{parameter_faults, first_fault, zone_faults, zones_from, dump_memory, tag_of};
+ghost use Rattle.zone_spec.specs.Layout.{ordered, dump_row as dump_row_of, one_row as one_row_of};
+ghost use Rattle.zone_spec.specs.Layout.{ftrace_row as ftrace_row_of};
 ghost use Rattle.zone_spec.specs.Layouts.{zone_place};
 ghost use Rattle.zone_spec.specs.Records.{is_of};
 ghost use Rattle.zone_spec.specs.Zones.{blocks_in as blocks_of};
 ghost use Rattle.zone_spec.specs.declared.params.Params.{Params as ParamsValue};
 
-use zone_spec::{Kind, LayoutFault, Params, Row, Zone, ZoneName};
+use zone_spec::{Kind, LayoutFault, Order, Params, Row, Zone, ZoneName};
 
 const SIGNATURE: u32 = 0x43474244;
 
@@ -109,40 +111,67 @@ pub fn parameter_fault(p: &Params) -> Option<LayoutFault>
     ])
 }
 
-/// The zones of each kind: dump, console, ftrace, pmsg.
+// These rows, the last two in their order.
+fn in_order(order: Order, dump: Row, console: Row, ftrace: Row, pmsg: Row) -> [Row; 4]
+    ensures { result ≡ dump ∷ console ∷ ordered order ftrace pmsg }
+{
+    match order {
+        Order::FtracePmsg => [dump, console, ftrace, pmsg],
+        Order::PmsgFtrace => [dump, console, pmsg, ftrace],
+    }
+}
+
+// The dump zones, in the memory that the other zones leave.
+fn dump_row(p: &Params) -> Row
+    requires { first_fault (parameter_faults p.now) ≡ None }
+    ensures { result ≡ dump_row_of p.now }
+{
+    let record = rounded(p.dump);
+    let memory = p.mem - rounded(p.console) - rounded(p.ftrace) - rounded(p.pmsg);
+    let dumps = if record == 0 { 0 } else { memory / record };
+    let size = if dumps == 0 { 0 } else { memory / dumps };
+    Row {
+        kind: Kind::Dump,
+        count: dumps,
+        size: size / 2 * 2,
+    }
+}
+
+// A zone of this size, or none of size 0.
+fn one_row(kind: Kind, size: u64) -> Row
+    ensures { result ≡ one_row_of kind size }
+{
+    Row {
+        kind,
+        count: u64::from(size != 0),
+        size,
+    }
+}
+
+fn ftrace_row(p: &Params) -> Row
+    requires { first_fault (parameter_faults p.now) ≡ None }
+    ensures { result ≡ ftrace_row_of p.now }
+{
+    let all = rounded(p.ftrace);
+    Row {
+        kind: Kind::Ftrace,
+        count: if all == 0 { 0 } else { p.cpus },
+        size: all / p.cpus / 2 * 2,
+    }
+}
+
+/// The zones of each kind, in the order in which they lie.
 pub fn rows(p: &Params) -> [Row; 4]
     requires { first_fault (parameter_faults p.now) ≡ None }
     ensures { result ≡ rows_of p.now }
 {
-    let console = rounded(p.console);
-    let ftrace = rounded(p.ftrace);
-    let pmsg = rounded(p.pmsg);
-    let record = rounded(p.dump);
-    let memory = p.mem - console - ftrace - pmsg;
-    let dumps = if record == 0 { 0 } else { memory / record };
-    let dump = if dumps == 0 { 0 } else { memory / dumps };
-    [
-        Row {
-            kind: Kind::Dump,
-            count: dumps,
-            size: dump / 2 * 2,
-        },
-        Row {
-            kind: Kind::Console,
-            count: u64::from(console != 0),
-            size: console,
-        },
-        Row {
-            kind: Kind::Ftrace,
-            count: if ftrace == 0 { 0 } else { p.cpus },
-            size: ftrace / p.cpus / 2 * 2,
-        },
-        Row {
-            kind: Kind::Pmsg,
-            count: u64::from(pmsg != 0),
-            size: pmsg,
-        },
-    ]
+    in_order(
+        p.order,
+        dump_row(p),
+        one_row(Kind::Console, rounded(p.console)),
+        ftrace_row(p),
+        one_row(Kind::Pmsg, rounded(p.pmsg)),
+    )
 }
 
 fn tag(p: &Params, kind: Kind) -> u32

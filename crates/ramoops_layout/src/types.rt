@@ -6,7 +6,8 @@ ghost use Rattle.zone_spec.specs.Layout.{layout_of, ecc_of};
 use crate::rows;
 use zone_spec::{Kind, Params, Zone, ZoneName};
 
-/// The zones of a parameter list, in their order: dump zones, console, ftrace zones, pmsg.
+/// The zones of a parameter list, in the order in which they lie: dump zones, console, and then the ftrace zones and
+/// pmsg in the order that the parameters say.
 #[derive(Drop)]
 pub struct Layout {
     params: Params,

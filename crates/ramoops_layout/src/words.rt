@@ -1,11 +1,19 @@
 // Words by a table of keys.
-ghost use Rattle.std.specs.Prelude.{◌≡◌, ◌<◌, ◌^◌, ◌==◌, [], false, length, bytes_eq, MatchOption};
+ghost use Rattle.std.specs.Prelude.{◌≡◌, ◌<◌, ◌^◌, ◌==◌, [], false, length, bytes_eq, position, MatchOption, IfSome, List, ℕ};
+ghost use Rattle.std.specs.Borrow.{Bor};
 ghost use Rattle.std.specs.Option.{option_copied};
 ghost use Rattle.std.specs.List.{list_any};
-ghost use Rattle.grammar_spec.specs.Words.{value_text, word_fault, first_fault, given, texts, IsSplit};
+ghost use Rattle.grammar_spec.specs.Words.{value_text, value_of, word_fault, first_fault, given, texts, IsSplit};
 
 use crate::ParamFault;
 use crate::numbers::{behind, number};
+
+fn place_of(choices: &[&str], text: &str) -> Option<usize>
+    ensures place { result ≡ position (λ (choice : Bor (List ℕ)). bytes_eq choice.now text.now) choices.now }
+    ensures within { IfSome result (λ place. place < length choices.now) }
+{
+    choices.iter().position(|choice| *choice == text)
+}
 
 /// The keys that words may give.
 #[derive(Clone, Copy)]
@@ -13,7 +21,11 @@ pub struct Keys {
     /// What may stand in front of each key; empty where nothing may.
     pub prefix: &'static str,
     pub names: &'static [&'static str],
+    /// The key whose value is one of the choices; all others' are numbers. Empty where there is none.
+    pub choice: &'static str,
+    pub choices: &'static [&'static str],
     ghost few: { length names.now < 2 ^ 32 },
+    ghost few_choices: { length choices.now < 2 ^ 32 },
 }
 
 impl Keys {
@@ -50,6 +62,27 @@ impl Keys {
         None
     }
 
+    // The place of a text among the choices.
+    fn choice_place(&self, text: &str) -> Option<u32>
+        ensures { result ≡ position (λ choice. bytes_eq choice text.now) (table_of self.now).choices }
+    {
+        match place_of(self.choices, text) {
+            Some(place) => Some(place as u32),
+            None => None,
+        }
+    }
+
+    // The number that a key's value writes.
+    fn value_number(&self, key: &str, text: &str) -> Option<u32>
+        ensures { result ≡ value_of (table_of self.now) key.now text.now }
+    {
+        if key == self.choice {
+            self.choice_place(text)
+        } else {
+            number(text)
+        }
+    }
+
     fn word_fault(&self, earlier: &[String], word: &str, place: u32) -> Option<ParamFault>
         ensures { result ≡ word_fault (table_of self.now) (texts earlier.now) place word.now }
     {
@@ -62,7 +95,7 @@ impl Keys {
         if self.value(earlier, key).is_some() {
             return Some(ParamFault::Twice(place));
         }
-        if number(text).is_none() {
+        if self.value_number(key, text).is_none() {
             return Some(ParamFault::NotANumber(place));
         }
         None
@@ -80,12 +113,12 @@ impl Keys {
         None
     }
 
-    /// The number that the words give a key.
+    /// The number that the words give a key; of a choice, its place.
     pub fn given(&self, words: &[String], key: &str) -> Option<u32>
         ensures { result ≡ given (table_of self.now) (texts words.now) key.now }
     {
         match self.value(words, key) {
-            Some(text) => number(text),
+            Some(text) => self.value_number(key, text),
             None => None,
         }
     }

@@ -6,3 +6,7 @@ pub mod OneWay
 pub mod Later
 pub mod Consoles
 pub mod AndroidLogs
+pub mod Places
+pub mod ReasonRows
+pub mod DigitRuns
+pub mod SaidLines

@@ -1,15 +1,18 @@
 // Which record tells why the machine died, and how.
-ghost use Rattle.std.specs.Prelude.{◌≡◌};
+ghost use Rattle.std.specs.Prelude.{◌≡◌, ◌++◌, map, option_to_list, OnOk, IfOk};
 ghost use Rattle.std.specs.Option.{option_copied};
 ghost use Rattle.report_spec.specs.Packed.{readable};
 ghost use Rattle.report_spec.specs.Deaths.{told_by, stamped, has_line, last_line, is_panic_beyond, tells_more, told_of};
-ghost use Rattle.report_spec.specs.Deaths.{death_told};
+ghost use Rattle.report_spec.specs.Deaths.{dump_told as told_by_dump, others_told as told_by_others};
+ghost use Rattle.report_spec.specs.Deaths.{death_told, is_same_dump as is_dump_named, other_told as told_by_other};
 ghost use Rattle.region_report.specs.Tellers.{as_told, told_in};
 
 use crate::newest::{console, newest_dump};
 use crate::shown::RecordReport;
 use death::{death, is_a, next_line, part};
 use death_spec::{Death, Line, Mark};
+use std::alloc::{AllocError, Global};
+use zone_spec::Name;
 
 /// A record, and why the machine died by what people read of it.
 #[derive(Clone, Copy)]
@@ -98,4 +101,66 @@ pub fn death_told(records: &[RecordReport]) -> Option<Telling<'_>>
     ensures { told_in result ≡ death_told records.now }
 {
     told_of(told_by(newest_dump(records)), told_by(console(records)))
+}
+
+fn is_same_dump(name: Name, other: Name) -> bool
+    ensures { result ≡ is_dump_named name other }
+{
+    match (name, other) {
+        (Name::Dump { index, .. }, Name::Dump { index: number, .. }) => index == number,
+        _ => false,
+    }
+}
+
+/// Why the machine died by another record than the dump of this name.
+pub fn other_told(name: Name, entry: &RecordReport) -> Option<Telling<'_>>
+    ensures { told_in result ≡ told_by_other name entry.now }
+{
+    if is_same_dump(name, entry.name) {
+        return None;
+    }
+    let death = death(entry.readable())?;
+    Some(Telling {
+        teller: entry,
+        death,
+    })
+}
+
+// Why the machine died by another dump than that of this name.
+fn dump_told(name: Name, entry: &RecordReport) -> Option<Telling<'_>>
+    ensures { told_in result ≡ told_by_dump name entry.now.name entry.now }
+{
+    match entry.name {
+        Name::Dump { .. } => other_told(name, entry),
+        Name::Console | Name::Pmsg | Name::Ftrace => None,
+    }
+}
+
+fn push_told<'a>(
+    tellings: &mut Vec<Telling<'a>>,
+    told: Option<Telling<'a>>,
+) -> Result<(), AllocError>
+    ensures { OnOk result (map as_told tellings.new.items
+        ≡ map as_told tellings.old.items ++ option_to_list (told_in told.entry)) }
+{
+    if let Some(told) = told {
+        tellings.push(told)?;
+    }
+    Ok(())
+}
+
+/// The deaths that other dumps than the one of this name tell of, in the order of the records. Takes time linear in
+/// the texts of the dumps.
+pub fn others_told<'a>(
+    alloc: Global,
+    name: Name,
+    records: &'a [RecordReport],
+) -> Result<Vec<Telling<'a>>, AllocError>
+    ensures { IfOk result (λ tellings. map as_told tellings.items ≡ told_by_others name records.now) }
+{
+    let mut tellings = Vec::new(alloc);
+    for entry in records {
+        push_told(&mut tellings, dump_told(name, entry))?;
+    }
+    Ok(tellings)
 }

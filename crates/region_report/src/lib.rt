@@ -4,17 +4,27 @@
 
 mod counted;
 mod deaths;
+mod ends;
+mod excerpts;
+mod facts;
 mod laws;
+mod moments;
 mod newest;
 mod report;
 mod shown;
+mod warnings;
 
 pub use counted::counts;
-pub use deaths::{Telling, death_told, has_telling_line};
+pub use deaths::{Telling, death_told, has_telling_line, other_told, others_told};
+pub use ends::{End, dump_reason, end_told};
+pub use excerpts::{below, place_above};
+pub use facts::{Machine, machine_told, seconds, signature_of, uptime};
 pub use laws::one_shown;
-pub use newest::{android_log, console, is_newer, newest_dump};
+pub use moments::push_moment;
+pub use newest::{android_log, console, is_console, is_newer, newest_dump};
 pub use prz_read::ZoneParts;
 pub use report::{Report, report_of, report_of_zones};
-pub use report_spec::{Packing, TextFault};
+pub use report_spec::{DumpReason, Packing, TextFault, Warning};
 pub use shown::RecordReport;
+pub use warnings::warnings_by;
 pub use zone_spec::PartState;

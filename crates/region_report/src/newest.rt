@@ -51,7 +51,8 @@ pub fn newest_dump(records: &[RecordReport]) -> Option<&RecordReport>
     newest
 }
 
-fn is_console(entry: &RecordReport) -> bool
+/// Whether a record is the console's.
+pub fn is_console(entry: &RecordReport) -> bool
     ensures { result ≡ is_console entry.now.name }
 {
     match entry.name {

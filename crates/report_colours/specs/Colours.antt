@@ -29,15 +29,19 @@ is_bracket b = b == 62
 abbrev pub level_field : List ℕ → List ℕ
 level_field line = take 4 (drop 3 line)
 
--- the level of a line that begins as `  <4>[` does: the kernel's number from 0 to 7, whatever wrote the line
+-- whether a line begins as `  <4>[` does, or as `> <4>[`, if it tells of the death
+abbrev pub has_level : List ℕ → Bool
+has_level line = begins (codes "  <") line || begins (codes "> <") line
+
+-- the level of such a line: the kernel's number from 0 to 7, whatever wrote the line
 abbrev pub level_of : List ℕ → Option ℕ
 level_of line =
-    if begins (codes "  <") line && list_any is_bracket (level_field line)
+    if has_level line && list_any is_bracket (level_field line)
     then option_map (λ n. n % 8) (long_digits 10 (before_first is_bracket (level_field line))) else None
 
 -- whether a line says why the machine died
 abbrev pub tells_death : List ℕ → Bool
-tells_death line = begins (codes "died: ") line && not (begins (codes "died: no record") line)
+tells_death line = begins (codes "died: ") line
 
 -- whether a line of the table of zones tells of bad parts, in its last column
 abbrev pub has_bad : List ℕ → Bool

@@ -1,8 +1,8 @@
 // The colour of a line.
-ghost use Rattle.std.specs.Prelude.{◌≡◌, ◌≤◌, length, Option, Some, None};
+ghost use Rattle.std.specs.Prelude.{◌≡◌, ◌≤◌, true, length, Option, Some, None};
 ghost use Rattle.std.specs.Option.{option_copied};
 ghost use Rattle.std.specs.List.{position, position_or_len};
-ghost use Rattle.report_colours.specs.Colours.{is_bracket, level_field, level_of, tells_death, has_bad, level_colour};
+ghost use Rattle.report_colours.specs.Colours.{is_bracket, level_field, has_level, level_of, tells_death, has_bad, level_colour};
 ghost use Rattle.report_colours.specs.Colours.{colour_of, is_newline};
 
 use kernel_line::long_digits;
@@ -27,11 +27,19 @@ fn level_field(line: &[u8]) -> &[u8]
     if field.len() > 4 { &field[..4] } else { field }
 }
 
-// The level of a line that begins as `  <4>[` does.
+// Whether a line begins as `  <4>[` does, or as `> <4>[`.
+fn has_level(line: &[u8]) -> bool
+    ensures has { result ≡ has_level line.now }
+    ensures within { result ≡ true → 3 ≤ length line.now }
+{
+    line.starts_with(b"  <") || line.starts_with(b"> <")
+}
+
+// The level of such a line.
 fn level(line: &[u8]) -> Option<u64>
     ensures { result ≡ level_of line.now }
 {
-    if !line.starts_with(b"  <") {
+    if !has_level(line) {
         return None;
     }
     let field = level_field(line);
@@ -42,7 +50,7 @@ fn level(line: &[u8]) -> Option<u64>
 fn tells_death(line: &[u8]) -> bool
     ensures { result ≡ tells_death line.now }
 {
-    line.starts_with(b"died: ") && !line.starts_with(b"died: no record")
+    line.starts_with(b"died: ")
 }
 
 fn has_bad(line: &[u8]) -> bool

@@ -3,6 +3,9 @@ use Rattle.std.specs.Prelude.{◌≡◌, ◌↔◌, ℕ, Bool, true, false, IsTr
 use Rattle.std.specs.Prelude.{slice_get, codes, decimal, Option, Some, None, Result, Ok, Err}
 use Rattle.std.specs.Fmt.{digits}
 use Rattle.zone_spec.specs.declared.Zone.{Zone}
+use Rattle.zone_spec.specs.Orders.{order_text}
+use Rattle.zone_spec.specs.declared.params.Order.{Order}
+use Rattle.zone_spec.specs.declared.params.Order.TheVariants.{FtracePmsg, PmsgFtrace}
 use Rattle.layout_spec.specs.declared.Candidate.{Candidate}
 use Rattle.zone_spec.specs.declared.params.LayoutFault.{LayoutFault}
 use Rattle.zone_spec.specs.Layout.{layout_of}
@@ -28,8 +31,13 @@ tagged_words c = codes " cpus=" ++ decimal c.cpus ++ codes " ftrace_sig=0x" ++ h
 abbrev pub ftrace_words : Candidate → List ℕ
 ftrace_words c = if c.ftrace == 0 then [] else tagged_words c
 
+-- without this word ftrace is before pmsg
+abbrev pub order_words : Order → List ℕ
+order_words FtracePmsg = []
+order_words PmsgFtrace = codes " order=" ++ order_text PmsgFtrace
+
 unfoldable pub layout_words : Candidate → ℕ → List ℕ
-layout_words c size = memory_words c size ++ size_words c ++ ftrace_words c
+layout_words c size = memory_words c size ++ size_words c ++ ftrace_words c ++ order_words c.order
 
 -- ---- a layout that is taken
 

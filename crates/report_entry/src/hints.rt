@@ -2,14 +2,14 @@
 ghost use Rattle.std.specs.Prelude.{◌≡◌, ◌↔◌, ◌++◌, IsTrue, decimal, string_bytes, IfOk, OnOk};
 ghost use Rattle.zone_spec.specs.Layout.{layout_of};
 ghost use Rattle.layout_spec.specs.Laid.{params_of};
-ghost use Rattle.report_entry.specs.Hints.{hexadecimal, memory_words, size_words, tagged_words, ftrace_words};
+ghost use Rattle.report_entry.specs.Hints.{hexadecimal, memory_words, size_words, tagged_words, ftrace_words, order_words};
 ghost use Rattle.report_entry.specs.Hints.{layout_words, faults_text, found_line, rival_text, untried_line};
 ghost use Rattle.report_entry.specs.Hints.{LiesAs, LieAlike, AreAlike, IsRivalLine, IsTakenHint, best_hint};
 
 use layout_search::{Candidate, Found, params};
 use ramoops_layout::{LayoutError, layout};
 use std::alloc::{AllocError, Global};
-use zone_spec::Zone;
+use zone_spec::{Order, Zone};
 
 // Appends words and a number after them.
 fn push_number(alloc: Global, text: &mut String, words: &str, n: u64) -> Result<(), AllocError>
@@ -71,6 +71,20 @@ fn ftrace_words(alloc: Global, c: &Candidate) -> Result<String, AllocError>
     tagged_words(alloc, c)
 }
 
+fn order_words(alloc: Global, order: Order) -> Result<String, AllocError>
+    ensures { IfOk result (λ text. string_bytes text ≡ order_words order) }
+{
+    let mut text = String::new(alloc);
+    match order {
+        Order::FtracePmsg => Ok(text),
+        Order::PmsgFtrace => {
+            text.push_str(" order=")?;
+            text.push_str(Order::PmsgFtrace.text())?;
+            Ok(text)
+        }
+    }
+}
+
 // The words that give a layout which was found in an image of so many bytes.
 #[tactic(auto, unfolding(crate::specs::Hints::layout_words))]
 fn layout_words(alloc: Global, c: &Candidate, size: u64) -> Result<String, AllocError>
@@ -79,6 +93,7 @@ fn layout_words(alloc: Global, c: &Candidate, size: u64) -> Result<String, Alloc
     let mut text = memory_words(alloc, c, size)?;
     text.push_str(&size_words(alloc, c)?)?;
     text.push_str(&ftrace_words(alloc, c)?)?;
+    text.push_str(&order_words(alloc, c.order)?)?;
     Ok(text)
 }
 

@@ -11,8 +11,8 @@ use Rattle.death_spec.specs.declared.Death.{Death}
 use Rattle.death_spec.specs.Reports.{death_of}
 use Rattle.report_spec.specs.Packed.{RecordShown, readable}
 use Rattle.report_spec.specs.Newest.{is_newer, newer_of, newest}
-use Rattle.report_spec.specs.Deaths.{DeathTold, told_by}
-use Rattle.report_html.specs.Before.{is_same_dump, other_told, is_other, told_before, teller_in, newer_told}
+use Rattle.report_spec.specs.Deaths.{DeathTold, told_by, is_same_dump, other_told}
+use Rattle.report_html.specs.Before.{is_other, told_before, teller_in, newer_told}
 
 -- what is held, of these records
 pub record Held (name : Name) (held : Option DeathTold) (records : List RecordShown) : Type 0 where

@@ -23,7 +23,7 @@ use Rattle.zone_spec.specs.PartStates.{PartStates}
 use Rattle.report_spec.specs.declared.Packing.{Packing}
 use Rattle.report_spec.specs.declared.Packing.TheVariants.{Plain, Whole, Part as PartOfText}
 use Rattle.report_spec.specs.Packed.{RecordShown, readable}
-use Rattle.report_spec.specs.Newest.{newest, is_console}
+use Rattle.report_spec.specs.Newest.{newest}
 use Rattle.report_spec.specs.Deaths.{DeathTold, death_told}
 use Rattle.zone_spec.specs.Reading.{ZoneReading}
 use Rattle.death_spec.specs.declared.Line.{Line}
@@ -48,7 +48,8 @@ use Rattle.report_html.specs.Pictures.{unused_parts, row_parts, zone_parts, draw
 use Rattle.report_html.specs.Pictures.{all_drawn}
 use Rattle.report_html.specs.Before.{told_before, time_after, before_parts, before_bytes}
 use Rattle.report_html.specs.Died.{second_parts, said_parts, why_parts, fact_parts, stamp_of, when_parts}
-use Rattle.report_html.specs.Died.{context_parts, place_above, below, rest_parts, around_parts}
+use Rattle.report_spec.specs.Excerpts.{place_above, below}
+use Rattle.report_html.specs.Died.{context_parts, rest_parts, around_parts}
 use Rattle.report_html.specs.Died.{death_parts, died_parts, second_bytes, named_bytes}
 use Rattle.report_html.specs.Died.{said_bytes, why_bytes, context_bytes, rest_bytes, around_bytes, death_bytes}
 use Rattle.report_html.specs.Died.{died_bytes}
@@ -65,9 +66,10 @@ use Rattle.report_html.specs.Pages.{time_parts, packing_parts, record_parts}
 use Rattle.report_html.specs.Pages.{records_after, list_parts, records_opening, heading_parts, page_with}
 use Rattle.report_html.specs.Pages.{page_parts}
 use Rattle.report_html.specs.Reads.{counted_parts, number_parts, read_parts}
-use Rattle.report_html.specs.Warnings.{lacking, console_warning, teller_warning}
-use Rattle.report_html.specs.Warnings.{bad_headers, headers_warning, layout_warning}
-use Rattle.report_html.specs.Warnings.{warnings_parts}
+use Rattle.report_spec.specs.declared.Warning.{Warning}
+use Rattle.report_spec.specs.declared.Warning.TheVariants.{ConsoleTells, BadTeller, BadHeaders, NoLog, ManyBad}
+use Rattle.region_report.specs.Warned.{warnings_by}
+use Rattle.report_html.specs.Warnings.{warning_parts, warnings_parts}
 use Rattle.report_html.specs.Escaping.{foreign_in, foreign_of, HoldBytes, TellsBytes, AllTellBytes, IsWithoutMarkup}
 use Rattle.report_html.proofs.Texts.{is-text}
 
@@ -277,24 +279,15 @@ of-died records (Some t) = of-death records t
 
 -- ---- warnings have none
 
-of-console : (dump : Option RecordShown) (told : Option DeathTold) → foreign_of (console_warning dump told) ≡ []
-of-console None told = refl
-of-console (Some dump) None = refl
-of-console (Some dump) (Some told) =
-    of-choice (is_console told.teller.name) (lacking dump.name) [] refl refl
-
-of-teller_warning : (badly : Bool) → foreign_of (teller_warning badly) ≡ []
-of-teller_warning badly = of-choice badly _ [] refl refl
-
-of-bad_headers : (count : ℕ) → foreign_of (headers_warning count) ≡ []
-of-bad_headers count = of-choice (nat_lt 0 count) (bad_headers count) [] refl refl
-
-of-layout : (logs bad zones : ℕ) → foreign_of (layout_warning logs bad zones) ≡ []
-of-layout logs bad zones =
-    of-choice (logs == 0) _ _ refl (of-choice (nat_lt (zones / 2) bad) _ [] refl refl)
+of-warning : (warning : Warning) → foreign_of (warning_parts warning) ≡ []
+of-warning (ConsoleTells dump) = refl
+of-warning (BadTeller bad) = refl
+of-warning (BadHeaders count) = refl
+of-warning NoLog = refl
+of-warning (ManyBad bad) = refl
 
 of-warnings : (report : ReportHeld) (told : Option DeathTold) → foreign_of (warnings_parts report told) ≡ []
-of-warnings report told = simp (both, of-console, of-teller_warning, of-bad_headers, of-layout)
+of-warnings report told = none-of warning_parts of-warning (warnings_by report told)
 
 -- ---- the table of dumps has telling lines
 

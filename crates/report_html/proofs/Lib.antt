@@ -9,7 +9,6 @@ pub mod NonZeroCounts
 pub mod PartSums
 pub mod Blocks
 pub mod PictureZones
-pub mod Places
 pub mod LogLines
 pub mod RecordGroups
 pub mod Earlier

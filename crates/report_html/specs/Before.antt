@@ -3,29 +3,15 @@ use Rattle.std.specs.Prelude.{ℕ, Bool, false, ◌==◌, if◌then◌else◌, L
 use Rattle.std.specs.Prelude.{None}
 use Rattle.std.specs.Option.{is_some, option_map, option_or}
 use Rattle.zone_spec.specs.declared.Name.{Name}
-use Rattle.zone_spec.specs.declared.Name.TheVariants.{Dump, Console, Pmsg, Ftrace}
 use Rattle.zone_spec.specs.declared.Time.{Time}
 use Rattle.death_spec.specs.declared.Line.{Line}
 use Rattle.death_spec.specs.Lines.{part}
 use Rattle.report_spec.specs.Packed.{RecordShown, readable}
 use Rattle.report_spec.specs.Newest.{newest, is_newer}
-use Rattle.report_spec.specs.Deaths.{DeathTold, told_by}
+use Rattle.report_spec.specs.Deaths.{DeathTold, told_by, other_told}
 use Rattle.report_html.specs.Pieces.{Part, Words, Bytes, Moment, Link}
 
 -- ---- which record
-
-abbrev pub is_same_dump : Name → Name → Bool
-is_same_dump (Dump i packed) (Dump j other) = i == j
-is_same_dump (Dump i packed) Console = false
-is_same_dump (Dump i packed) Pmsg = false
-is_same_dump (Dump i packed) Ftrace = false
-is_same_dump Console other = false
-is_same_dump Pmsg other = false
-is_same_dump Ftrace other = false
-
--- why the machine died by another record than the dump of this name
-abbrev pub other_told : Name → RecordShown → Option DeathTold
-other_told name r = if is_same_dump name r.name then None else told_by (Some r)
 
 abbrev pub is_other : Name → RecordShown → Bool
 is_other name r = is_some (other_told name r)

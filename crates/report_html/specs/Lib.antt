@@ -1,4 +1,3 @@
-pub mod Moments
 pub mod Logs
 pub mod Pieces
 pub mod Pictures

@@ -1,6 +1,8 @@
 -- The parameters of a layout, in a table
 use Rattle.std.specs.Prelude.{ℕ, List, [], ◌∷◌, ◌++◌, codes}
+use Rattle.zone_spec.specs.declared.params.Order.{Order}
 use Rattle.zone_spec.specs.declared.params.Params.{Params}
+use Rattle.zone_spec.specs.Orders.{order_text}
 use Rattle.report_html.specs.declared.words.TheConstants.{PARAMETERS}
 use Rattle.report_html.specs.Pieces.{Part, Words, Count}
 
@@ -8,6 +10,14 @@ abbrev pub parameter_parts : (key : List ℕ) → ℕ → List Part
 parameter_parts key n =
     Words (codes "<tr><th scope=\"row\">") ∷ Words key ∷ Words (codes "</th><td class=\"n\">") ∷ Count n
     ∷ Words (codes "</td></tr>\n") ∷ []
+
+abbrev pub text_parts : (key text : List ℕ) → List Part
+text_parts key text =
+    Words (codes "<tr><th scope=\"row\">") ∷ Words key ∷ Words (codes "</th><td>") ∷ Words text
+    ∷ Words (codes "</td></tr>\n") ∷ []
+
+abbrev pub order_parts : Order → List Part
+order_parts order = text_parts (codes "order") (order_text order)
 
 abbrev pub size_rows : Params → List Part
 size_rows p =
@@ -22,7 +32,8 @@ parity_rows p =
     ++ parameter_parts (codes "ecc_pmsg") p.ecc_pmsg
 
 abbrev pub ftrace_rows : Params → List Part
-ftrace_rows p = parameter_parts (codes "cpus") p.cpus ++ parameter_parts (codes "ftrace_sig") p.ftrace_sig
+ftrace_rows p =
+    parameter_parts (codes "cpus") p.cpus ++ parameter_parts (codes "ftrace_sig") p.ftrace_sig ++ order_parts p.order
 
 -- with a row for each
 abbrev pub parameters_parts : Params → List Part

@@ -4,7 +4,7 @@ use Rattle.zone_spec.specs.declared.Name.{Name}
 use Rattle.zone_spec.specs.declared.Time.{Time}
 use Rattle.zone_spec.specs.Names.{name_text}
 use Rattle.report_spec.specs.Escaped.{escaped}
-use Rattle.report_html.specs.Moments.{moment_text}
+use Rattle.report_spec.specs.Moments.{moment_text}
 use Rattle.report_html.specs.Logs.{log_text}
 use Rattle.report_html.specs.declared.pieces.Piece.{Piece}
 use Rattle.report_html.specs.declared.pieces.Piece.TheVariants.{Own, Number, Foreign, Moment as MomentPiece}

@@ -4,40 +4,16 @@ ghost use Rattle.zone_spec.specs.Parts.{AreBytes};
 ghost use Rattle.report_spec.specs.Newest.{is_newer};
 ghost use Rattle.region_report.specs.Tellers.{told_in};
 ghost use Rattle.report_html.specs.Pieces.{parts};
-ghost use Rattle.report_html.specs.Before.{is_same_dump as is_dump_named, other_told as told_by_other};
 ghost use Rattle.report_html.specs.Before.{told_before as told_by_newest, teller_in, newer_told as told_by_newer};
 ghost use Rattle.report_html.specs.Before.{time_after, line_below, before_parts};
 ghost use Rattle.report_html.specs.Escaping.{TellsBytes};
 
 use crate::pieces::{Piece, add};
-use death::{death, part};
+use death::part;
 use death_spec::Line;
-use region_report::{RecordReport, Telling, is_newer};
+use region_report::{RecordReport, Telling, is_newer, other_told};
 use std::alloc::AllocError;
 use zone_spec::{Name, Time};
-
-fn is_same_dump(name: Name, other: Name) -> bool
-    ensures { result ≡ is_dump_named name other }
-{
-    match (name, other) {
-        (Name::Dump { index, .. }, Name::Dump { index: number, .. }) => index == number,
-        _ => false,
-    }
-}
-
-/// Why the machine died by another record than the dump of this name.
-fn other_told(name: Name, entry: &RecordReport) -> Option<Telling<'_>>
-    ensures { told_in result ≡ told_by_other name entry.now }
-{
-    if is_same_dump(name, entry.name) {
-        return None;
-    }
-    let death = death(entry.readable())?;
-    Some(Telling {
-        teller: entry,
-        death,
-    })
-}
 
 /// Whether a record is newer than the one that is held.
 fn is_newer_than(entry: &RecordReport, held: Option<Telling<'_>>) -> bool

@@ -1,14 +1,12 @@
 // Why the machine died: the line that tells it, what is known of it, and the lines around it.
 ghost use Rattle.std.specs.Prelude.{◌≡◌, ◌++◌, OnOk};
 ghost use Rattle.zone_spec.specs.Parts.{AreBytes};
-ghost use Rattle.death_spec.specs.Lines.{lines_from};
 ghost use Rattle.report_spec.specs.Packed.{readable};
 ghost use Rattle.std.specs.Option.{option_copied};
 ghost use Rattle.region_report.specs.Tellers.{as_told, told_in};
 ghost use Rattle.report_html.specs.Pieces.{parts};
 ghost use Rattle.report_html.specs.Died.{second_parts, said_parts, why_parts, fact_parts, stamp_of as stamp_span};
-ghost use Rattle.report_html.specs.Died.{when_parts, context_parts, is_found as is_line_found, fewer as lines_fewer};
-ghost use Rattle.report_html.specs.Died.{place_above as place_before, next_at, below as place_below, log_parts};
+ghost use Rattle.report_html.specs.Died.{when_parts, context_parts, log_parts};
 ghost use Rattle.report_html.specs.Died.{marked_parts, rest_parts, around_parts, shared_words, console_words};
 ghost use Rattle.report_html.specs.Died.{teller_parts, death_parts, died_parts};
 ghost use Rattle.report_html.specs.Before.{told_before};
@@ -18,9 +16,9 @@ use crate::before::add_before;
 use crate::listed::is_console;
 use crate::pieces::{Piece, add};
 use crate::words::{NO_CPU, NO_FUNCTION, TOLD};
-use death::{next_line, part};
+use death::part;
 use death_spec::{Death, Line, Span};
-use region_report::{RecordReport, Telling, console, has_telling_line};
+use region_report::{RecordReport, Telling, below, console, has_telling_line, place_above};
 use std::alloc::AllocError;
 use zone_spec::{Name, Time};
 
@@ -161,64 +159,6 @@ fn add_context<'a>(
     add_fact(pieces, "Task", "", text, death.task)?;
     add_fact(pieces, "Kernel", "", text, death.kernel)?;
     add_fact(pieces, "Function", NO_FUNCTION, text, death.function)
-}
-
-/// Whether this is the newline before the line that is looked for.
-fn is_found(b: u8, left: usize) -> bool
-    ensures { result ≡ is_line_found b left }
-{
-    b == b'\n' && left == 0
-}
-
-/// The lines that are left above a byte.
-fn fewer(b: u8, left: usize) -> usize
-    ensures { result ≡ lines_fewer b left }
-{
-    if b == b'\n' {
-        left.saturating_sub(1)
-    } else {
-        left
-    }
-}
-
-/// The place of the line so many lines above the one at a place, or of the first.
-fn place_above(text: &[u8], at: usize, lines: usize) -> usize
-    ensures { result ≡ place_before text.now at lines }
-{
-    let mut place = at.min(text.len());
-    let mut left = lines;
-    'bytes: while place > 0 {
-        let b = text[place - 1];
-        if is_found(b, left) {
-            return place;
-        }
-        left = fewer(b, left);
-        place -= 1;
-    }
-    0
-}
-
-/// The place of the next line, or this place if there is none.
-fn next_place(text: &[u8], place: usize) -> usize
-    ensures { result ≡ next_at place (lines_from text.now place) }
-{
-    match next_line(text, place) {
-        Some(line) => line.next,
-        None => place,
-    }
-}
-
-/// The place so many lines below one at which a line begins, or the end.
-fn below(text: &[u8], at: usize, lines: usize) -> usize
-    ensures { result ≡ place_below text.now at lines }
-{
-    let mut place = at;
-    let mut left = lines;
-    'lines: while left > 0 {
-        place = next_place(text, place);
-        left -= 1;
-    }
-    place
 }
 
 fn add_marked<'a>(pieces: &mut Vec<Piece<'a>>, text: &'a [u8], line: Line) -> Result<(), AllocError>

@@ -14,7 +14,6 @@ mod groups;
 mod laws;
 mod listed;
 mod logs;
-mod moments;
 mod names;
 mod page;
 mod parameters;

@@ -213,7 +213,7 @@ fn all_pieces<'a>(
     let told = death_told(report.records());
     add_heading(&mut pieces, title)?;
     add_why(&mut pieces, told)?;
-    add_warnings(&mut pieces, report, told)?;
+    add_warnings(alloc, &mut pieces, report, told)?;
     add_died(&mut pieces, report.records(), told)?;
     add_records_opening(&mut pieces, report.records().len() as u64)?;
     add_causes(alloc, &mut pieces, report.records())?;

@@ -1,12 +1,13 @@
 // The parameters of a layout.
 ghost use Rattle.std.specs.Prelude.{◌≡◌, ◌++◌, OnOk};
 ghost use Rattle.report_html.specs.Pieces.{parts};
-ghost use Rattle.report_html.specs.Parameters.{parameter_parts, size_rows, parity_rows, ftrace_rows, parameters_parts};
+ghost use Rattle.report_html.specs.Parameters.{parameter_parts, size_rows, parity_rows, ftrace_rows, text_parts, order_parts};
+ghost use Rattle.report_html.specs.Parameters.{parameters_parts};
 
 use crate::pieces::{Piece, add};
 use crate::words::PARAMETERS;
 use std::alloc::AllocError;
-use zone_spec::Params;
+use zone_spec::{Order, Params};
 
 fn add_parameter(
     pieces: &mut Vec<Piece<'_>>,
@@ -50,11 +51,37 @@ fn add_parity(pieces: &mut Vec<Piece<'_>>, params: &Params) -> Result<(), AllocE
     Ok(())
 }
 
+fn add_text(
+    pieces: &mut Vec<Piece<'_>>,
+    key: &'static str,
+    text: &'static str,
+) -> Result<(), AllocError>
+    ensures { OnOk result (parts pieces.new.items ≡ parts pieces.old.items ++ text_parts key.entry.now text.entry.now) }
+{
+    add(
+        pieces,
+        &[
+            Piece::Own("<tr><th scope=\"row\">"),
+            Piece::Own(key),
+            Piece::Own("</th><td>"),
+            Piece::Own(text),
+            Piece::Own("</td></tr>\n"),
+        ],
+    )
+}
+
+fn add_order(pieces: &mut Vec<Piece<'_>>, order: Order) -> Result<(), AllocError>
+    ensures { OnOk result (parts pieces.new.items ≡ parts pieces.old.items ++ order_parts order) }
+{
+    add_text(pieces, "order", order.text())
+}
+
 fn add_ftrace(pieces: &mut Vec<Piece<'_>>, params: &Params) -> Result<(), AllocError>
     ensures { OnOk result (parts pieces.new.items ≡ parts pieces.old.items ++ ftrace_rows params.now) }
 {
     add_parameter(pieces, "cpus", params.cpus)?;
     add_parameter(pieces, "ftrace_sig", u64::from(params.ftrace_sig))?;
+    add_order(pieces, params.order)?;
     Ok(())
 }
 

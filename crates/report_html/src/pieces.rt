@@ -4,9 +4,9 @@ ghost use Rattle.report_html.specs.Pieces.{piece_text, parts, parts_text};
 
 use crate::escaping::push_escaped;
 use crate::logs::push_log;
-use crate::moments::push_moment;
 use crate::names::{push_link, push_name};
 use itoa::Buffer;
+use region_report::push_moment;
 use std::alloc::{AllocError, Global};
 use zone_spec::{Name, Time};
 

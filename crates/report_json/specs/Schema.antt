@@ -32,6 +32,8 @@ use Rattle.death_spec.specs.declared.Span.{Span}
 use Rattle.death_spec.specs.declared.Death.{Death}
 use Rattle.death_spec.specs.Lines.{part}
 use Rattle.death_spec.specs.Reports.{trace_of}
+use Rattle.death_spec.specs.declared.Ending.{Ending}
+use Rattle.death_spec.specs.declared.Ending.TheVariants.{Restarted, SwitchedOff, Reset, BrokenOff}
 use Rattle.zone_spec.specs.declared.PartState.{PartState}
 use Rattle.zone_spec.specs.declared.PartState.TheVariants.{Read, Bad}
 use Rattle.zone_spec.specs.PartStates.{PartStates}
@@ -39,8 +41,17 @@ use Rattle.report_spec.specs.declared.Packing.{Packing}
 use Rattle.report_spec.specs.declared.Packing.TheVariants.{Plain, Whole, Part}
 use Rattle.report_spec.specs.Packed.{RecordShown, fault_words, readable}
 use Rattle.report_spec.specs.Deaths.{DeathTold, death_told}
+use Rattle.report_spec.specs.declared.DumpReason.{DumpReason}
+use Rattle.report_spec.specs.declared.DumpReason.TheVariants.{Panic, Oops, Emergency, Restart, Halt, PowerOff}
+use Rattle.report_spec.specs.declared.DumpReason.TheVariants.{ShutDown}
+use Rattle.report_spec.specs.declared.Warning.{Warning}
+use Rattle.report_spec.specs.declared.Warning.TheVariants.{ConsoleTells, BadTeller, BadHeaders, NoLog, ManyBad}
+use Rattle.report_spec.specs.Facts.{uptime_of, MachineTold, machine_of, signature_told}
+use Rattle.report_spec.specs.Newest.{console_of}
+use Rattle.report_spec.specs.Ends.{EndTold, reason_of, end_told}
 use Rattle.region_report.specs.Counted.{zones_counted}
 use Rattle.region_report.specs.Reports.{ReportHeld}
+use Rattle.region_report.specs.Warned.{warnings_by}
 
 abbrev pub count : ℕ → Data
 count n = number (unsigned n)
@@ -232,17 +243,24 @@ second_data text (Some line) = said_data text line
 abbrev pub trace_data : List ℕ → Data
 trace_data text = array (items_of (map (span_data text) (trace_of text)))
 
+-- bytes as far as they are UTF-8, or null if there are none
+abbrev pub bytes_data : List ℕ → Data
+bytes_data [] = null
+bytes_data (b ∷ bs) = front_data (b ∷ bs)
+
 -- why the machine died by a record's text, with the record's name and the call trace
 abbrev pub death_with : List ℕ → Name → Death → Data → Data
 death_with text name death trace = object (
     member (codes "cpu") (named_data text death.cpu) (
     member (codes "function") (named_data text death.function) (
+    member (codes "is_next") (boolean death.is_next) (
     member (codes "kernel") (named_data text death.kernel) (
     member (codes "line") (said_data text death.telling) (
     member (codes "record") (string (name_text name)) (
     member (codes "second") (second_data text death.second) (
     member (codes "task") (named_data text death.task) (
-    member (codes "trace") trace no_members))))))))
+    member (codes "trace") trace (
+    member (codes "uptime") (bytes_data (uptime_of text death.telling)) no_members))))))))))
 
 abbrev pub told_data : DeathTold → Data
 told_data t = death_with (readable t.teller) t.teller.name t.death (trace_data (readable t.teller))
@@ -252,18 +270,110 @@ abbrev pub death_data : Option DeathTold → Data
 death_data None = null
 death_data (Some t) = told_data t
 
-abbrev pub line_with : Data → List ℕ → Data → Data → Data → Data
-line_with death path parameters records zones = object (
-    member (codes "death") death (
+abbrev pub machine_with : MachineTold → Data
+machine_with m = object (
+    member (codes "cmdline") (bytes_data m.cmdline) (
+    member (codes "hardware") (bytes_data m.hardware) (
+    member (codes "modules") (bytes_data m.modules) (
+    member (codes "version") (bytes_data m.version) no_members))))
+
+-- what the log of a death says of the machine
+abbrev pub machine_data : List RecordShown → Option DeathTold → Data
+machine_data records None = null
+machine_data records (Some t) = machine_with (machine_of t (console_of records))
+
+-- ---- no death
+
+abbrev pub ending_text : Ending → List ℕ
+ending_text Restarted = codes "restarted"
+ending_text SwitchedOff = codes "switched_off"
+ending_text Reset = codes "sysrq"
+ending_text BrokenOff = codes "broken_off"
+
+abbrev pub reason_text : DumpReason → List ℕ
+reason_text Panic = codes "panic"
+reason_text Oops = codes "oops"
+reason_text Emergency = codes "emergency"
+reason_text Restart = codes "restart"
+reason_text Halt = codes "halt"
+reason_text PowerOff = codes "power_off"
+reason_text ShutDown = codes "shut_down"
+
+abbrev pub reason_data : Option DumpReason → Data
+reason_data None = null
+reason_data (Some reason) = string (reason_text reason)
+
+-- how a log ends: the ending, the last line of the kernel's, what the head of a dump says, and the record
+abbrev pub end_with : List ℕ → EndTold → Data
+end_with text t = object (
+    member (codes "ending") (string (ending_text t.ended.ending)) (
+    member (codes "line") (said_data text t.ended.line) (
+    member (codes "reason") (reason_data (reason_of text)) (
+    member (codes "record") (string (name_text t.teller.name)) no_members))))
+
+abbrev pub ended_data : Option EndTold → Data
+ended_data None = null
+ended_data (Some t) = end_with (readable t.teller) t
+
+-- null where a record tells why the machine died
+abbrev pub end_data : List RecordShown → Option DeathTold → Data
+end_data records None = ended_data (end_told records)
+end_data records (Some t) = null
+
+-- ---- warnings
+
+-- a code, a number, and the record that the warning is about
+abbrev pub warning_with : List ℕ → Data → Data → Data
+warning_with code n about = object (
+    member (codes "code") (string code) (
+    member (codes "count") n (
+    member (codes "record") about no_members)))
+
+abbrev pub warning_data : Warning → Data
+warning_data (ConsoleTells dump) = warning_with (codes "console_tells") null (string (name_text dump))
+warning_data (BadTeller bad) = warning_with (codes "bad_teller") (count bad) null
+warning_data (BadHeaders headers) = warning_with (codes "bad_headers") (count headers) null
+warning_data NoLog = warning_with (codes "no_log") null null
+warning_data (ManyBad zones) = warning_with (codes "many_bad") (count zones) null
+
+abbrev pub warnings_data : List Warning → Data
+warnings_data warnings = array (items_of (map warning_data warnings))
+
+-- ---- the line
+
+-- what a report says of a death: why, how the log ends, what it says of the machine, the signature, and the warnings
+pub record Answers : Type 0 where
+  pub death : Data
+  pub end : Data
+  pub machine : Data
+  pub signature : Data
+  pub warnings : Data
+
+abbrev pub line_with : Answers → List ℕ → Data → Data → Data → Data
+line_with a path parameters records zones = object (
+    member (codes "death") a.death (
+    member (codes "end") a.end (
+    member (codes "machine") a.machine (
     member (codes "parameters") parameters (
     member (codes "path") (string path) (
     member (codes "records") records (
     member (codes "schema") (count 2) (
-    member (codes "zones") zones no_members))))))
+    member (codes "signature") a.signature (
+    member (codes "warnings") a.warnings (
+    member (codes "zones") zones no_members))))))))))
 
-abbrev pub line_data : List RecordShown → List ℕ → Params → List Data → List Data → Data
-line_data shown path params zones records =
-    line_with (death_data (death_told shown)) path (parameters_data params) (array (items_of records))
+abbrev pub answers_by : ReportHeld → Option DeathTold → Answers
+answers_by report told = record {
+  death = death_data told;
+  end = end_data report.records told;
+  machine = machine_data report.records told;
+  signature = bytes_data (signature_told told);
+  warnings = warnings_data (warnings_by report told);
+}
+
+abbrev pub line_data : ReportHeld → List ℕ → Params → List Data → List Data → Data
+line_data report path params zones records =
+    line_with (answers_by report (death_told report.records)) path (parameters_data params) (array (items_of records))
     (array (items_of zones))
 
 -- the line of a report: the tokens of this data, in order, with nothing between them
@@ -271,6 +381,6 @@ pub record IsLine (path : List ℕ) (params : Params) (zones : List Zone) (repor
     : Type 0 where
   pub values : List Data
   pub each_zone : AreZones zones report.logs.readings report.parts (length zones) values
-  pub in_order : IsInOrder text (line_data report.records path params values
+  pub in_order : IsInOrder text (line_data report path params values
       (map (record_data (saved report.logs)) report.records))
   pub compact : text ≡ print (tokens text)

@@ -1,17 +1,18 @@
 // The value of why the machine died.
 ghost use Rattle.std.specs.Prelude.{◌≡◌, map, IfOk};
 ghost use Rattle.serde_json.specs.View.{view};
-ghost use Rattle.report_spec.specs.Deaths.{death_told};
-ghost use Rattle.region_report.specs.Tellers.{as_told};
+ghost use Rattle.zone_spec.specs.Names.{name_text as text_of_name};
+ghost use Rattle.serde_json.specs.Data.{string};
+ghost use Rattle.region_report.specs.Tellers.{as_told, told_in};
 ghost use Rattle.report_json.specs.Schema.{front_data, span_data, named_data, said_data, second_data, trace_data};
-ghost use Rattle.report_json.specs.Schema.{death_with, told_data, death_data};
+ghost use Rattle.report_json.specs.Schema.{bytes_data, death_with, told_data, death_data};
 
 use crate::records::utf8_front;
 use arrayvec::ArrayString;
 use death::{part, trace};
 use death_spec::{Death, Line, Span};
 use pstore_records::name_text;
-use region_report::{RecordReport, Telling, death_told};
+use region_report::{RecordReport, Telling, uptime};
 use serde_json::{Value, json};
 use std::alloc::{AllocError, Global};
 use zone_spec::Name;
@@ -38,7 +39,7 @@ fn named_value(alloc: Global, text: &[u8], span: Option<Span>) -> Result<Value, 
 }
 
 /// What a line says.
-fn said_value(alloc: Global, text: &[u8], line: Line) -> Result<Value, AllocError>
+pub fn said_value(alloc: Global, text: &[u8], line: Line) -> Result<Value, AllocError>
     ensures { IfOk result (λ v. view v ≡ said_data text.now line) }
 {
     front_value(alloc, part(text, line.text, line.end))
@@ -72,6 +73,25 @@ fn trace_value(alloc: Global, text: &[u8]) -> Result<Value, AllocError>
     Ok(Value::Array(names))
 }
 
+/// Bytes as far as they are UTF-8, or null if there are none.
+pub fn bytes_value(alloc: Global, bytes: &[u8]) -> Result<Value, AllocError>
+    ensures { IfOk result (λ v. view v ≡ bytes_data bytes.now) }
+{
+    if bytes.is_empty() {
+        return Ok(Value::Null);
+    }
+    front_value(alloc, bytes)
+}
+
+/// The name of a record.
+pub fn name_value(alloc: Global, name: Name) -> Result<Value, AllocError>
+    ensures { IfOk result (λ v. view v ≡ string (text_of_name name)) }
+{
+    let mut text = ArrayString::new();
+    name_text(name, &mut text);
+    Value::try_from_str(alloc, text.as_str())
+}
+
 fn death_with(
     alloc: Global,
     text: &[u8],
@@ -81,23 +101,25 @@ fn death_with(
 ) -> Result<Value, AllocError>
     ensures { IfOk result (λ v. view v ≡ death_with text.now name death (view trace)) }
 {
-    let mut record_name = ArrayString::new();
-    name_text(name, &mut record_name);
+    let record_name = name_value(alloc, name)?;
     let cpu = named_value(alloc, text, death.cpu)?;
     let function = named_value(alloc, text, death.function)?;
     let kernel = named_value(alloc, text, death.kernel)?;
     let line = said_value(alloc, text, death.telling)?;
     let second = second_value(alloc, text, death.second)?;
     let task = named_value(alloc, text, death.task)?;
+    let uptime = bytes_value(alloc, uptime(text, death.telling))?;
     json!(in alloc; {
         "cpu": cpu,
         "function": function,
+        "is_next": death.is_next,
         "kernel": kernel,
         "line": line,
-        "record": record_name.as_str(),
+        "record": record_name,
         "second": second,
         "task": task,
-        "trace": trace
+        "trace": trace,
+        "uptime": uptime
     })
 }
 
@@ -112,10 +134,10 @@ fn told_value(alloc: Global, told: &Telling<'_>) -> Result<Value, AllocError>
 
 /// Why the machine died, as one of the records tells it, or null. Text that is no UTF-8 is cut before the first byte
 /// that isn't.
-pub fn death_value(alloc: Global, records: &[RecordReport]) -> Result<Value, AllocError>
-    ensures { IfOk result (λ v. view v ≡ death_data (death_told records.now)) }
+pub fn death_value(alloc: Global, told: Option<Telling<'_>>) -> Result<Value, AllocError>
+    ensures { IfOk result (λ v. view v ≡ death_data (told_in told.entry)) }
 {
-    match death_told(records) {
+    match told {
         Some(told) => told_value(alloc, &told),
         None => Ok(Value::Null),
     }

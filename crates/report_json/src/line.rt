@@ -1,12 +1,17 @@
 // The line of a report.
 ghost use Rattle.std.specs.Prelude.{◌≡◌, length, string_bytes, IfOk};
 ghost use Rattle.serde_json.specs.View.{view};
-ghost use Rattle.report_json.specs.Schema.{line_with, IsLine};
+ghost use Rattle.report_spec.specs.Deaths.{death_told as death_of};
+ghost use Rattle.report_json.specs.Schema.{answers_by, line_with, IsLine};
+ghost use Rattle.report_json.specs.Answering.{answers_in};
 
 use crate::deaths::death_value;
+use crate::ends::end_value;
+use crate::machines::{machine_value, signature_value};
 use crate::records::record_values;
+use crate::warned::warnings_value;
 use crate::zones::{parameters_value, zone_values};
-use region_report::Report;
+use region_report::{Report, death_told};
 use serde_json::{Value, json};
 use std::alloc::{AllocError, Global};
 use zone_spec::{Params, Zone};
@@ -14,23 +19,56 @@ use zone_spec::{Params, Zone};
 /// The number of the schema that docs/REPORT.md describes.
 const SCHEMA: u32 = 2;
 
+/// What a report says of a death.
+#[derive(Drop)]
+struct Answer {
+    death: Value,
+    end: Value,
+    machine: Value,
+    signature: Value,
+    warnings: Value,
+}
+
+fn answer_of(alloc: Global, report: &Report) -> Result<Answer, AllocError>
+    ensures { IfOk result (λ a. answers_in a ≡ answers_by report.now (death_of report.now.records)) }
+{
+    let records = report.records();
+    let told = death_told(records);
+    let death = death_value(alloc, told)?;
+    let end = end_value(alloc, records, told)?;
+    let machine = machine_value(alloc, records, told)?;
+    let signature = signature_value(alloc, told)?;
+    let warnings = warnings_value(alloc, report, told)?;
+    Ok(Answer {
+        death,
+        end,
+        machine,
+        signature,
+        warnings,
+    })
+}
+
 fn line_value(
     alloc: Global,
-    death: Value,
+    answer: Answer,
     path: &str,
     parameters: Value,
     records: Value,
     zones: Value,
 ) -> Result<Value, AllocError>
-    ensures { IfOk result (λ v. view v ≡ line_with (view death) path.now (view parameters) (view records)
+    ensures { IfOk result (λ v. view v ≡ line_with (answers_in answer) path.now (view parameters) (view records)
         (view zones)) }
 {
     json!(in alloc; {
-        "death": death,
+        "death": answer.death,
+        "end": answer.end,
+        "machine": answer.machine,
         "parameters": parameters,
         "path": path,
         "records": records,
         "schema": SCHEMA,
+        "signature": answer.signature,
+        "warnings": answer.warnings,
         "zones": zones
     })
 }
@@ -52,7 +90,7 @@ pub fn json(
     let records = Value::from(record_list);
     let zone_list = zone_values(alloc, zones, report.logs(), report.parts())?;
     let zones = Value::from(zone_list);
-    let death = death_value(alloc, report.records())?;
-    let value = line_value(alloc, death, path, parameters, records, zones)?;
+    let answer = answer_of(alloc, report)?;
+    let value = line_value(alloc, answer, path, parameters, records, zones)?;
     value.to_string(alloc)
 }

@@ -11,7 +11,7 @@ use serde_json::{Value, json};
 use std::alloc::{AllocError, Global};
 use zone_spec::{Kind, Params, State, Words, Zone, ZoneName};
 
-/// The parameters as they were given.
+/// The parameters as they were given, but for the order of the zones, which their places show.
 pub fn parameters_value(alloc: Global, p: &Params) -> Result<Value, AllocError>
     ensures { IfOk result (λ v. view v ≡ parameters_data p.now) }
 {

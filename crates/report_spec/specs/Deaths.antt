@@ -1,7 +1,10 @@
 -- Which record tells why the machine died, and how
-use Rattle.std.specs.Prelude.{ℕ, Bool, not, ◌&&◌, if◌then◌else◌, List, bytes_eq, Option, Some, None}
+use Rattle.std.specs.Prelude.{ℕ, ◌==◌, Bool, false, not, ◌&&◌, if◌then◌else◌, List, bytes_eq, flat_map, option_to_list}
+use Rattle.std.specs.Prelude.{Option, Some, None}
 use Rattle.std.specs.List.{list_any}
 use Rattle.std.specs.Option.{option_map}
+use Rattle.zone_spec.specs.declared.Name.{Name}
+use Rattle.zone_spec.specs.declared.Name.TheVariants.{Dump, Console, Pmsg, Ftrace}
 use Rattle.death_spec.specs.declared.Line.{Line}
 use Rattle.death_spec.specs.declared.Death.{Death}
 use Rattle.death_spec.specs.declared.Mark.TheVariants.{Panic}
@@ -50,3 +53,28 @@ told_of (Some dump) (Some console) = if tells_more console dump then Some consol
 -- what the newest dump tells, unless the console alone tells or has a panic that this dump lacks
 unfoldable pub death_told : List RecordShown → Option DeathTold
 death_told records = told_of (told_by (newest records)) (told_by (console_of records))
+
+-- ---- other deaths
+
+abbrev pub is_same_dump : Name → Name → Bool
+is_same_dump (Dump i packed) (Dump j other) = i == j
+is_same_dump (Dump i packed) Console = false
+is_same_dump (Dump i packed) Pmsg = false
+is_same_dump (Dump i packed) Ftrace = false
+is_same_dump Console other = false
+is_same_dump Pmsg other = false
+is_same_dump Ftrace other = false
+
+-- why the machine died by another record than the dump of this name
+abbrev pub other_told : Name → RecordShown → Option DeathTold
+other_told name r = if is_same_dump name r.name then None else told_by (Some r)
+
+abbrev pub dump_told : Name → Name → RecordShown → Option DeathTold
+dump_told name (Dump index packed) r = other_told name r
+dump_told name Console r = None
+dump_told name Pmsg r = None
+dump_told name Ftrace r = None
+
+-- the deaths that other dumps than the one of this name tell of, in the order of the records
+abbrev pub others_told : Name → List RecordShown → List DeathTold
+others_told name records = flat_map (λ (r : RecordShown). option_to_list (dump_told name r.name r)) records

@@ -3,3 +3,8 @@ pub mod Newest
 pub mod Deaths
 pub mod Escaped
 pub mod Visible
+pub mod Moments
+pub mod Excerpts
+pub mod Warnings
+pub mod Facts
+pub mod Ends

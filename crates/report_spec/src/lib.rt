@@ -6,6 +6,7 @@ ghost use Rattle.std.specs.Prelude.{◌≡◌};
 ghost use Rattle.report_spec.specs.Packed.{stream_words, fault_words};
 
 use inflate_spec::Fault;
+use zone_spec::Name;
 
 /// Why a packed dump's text is not shown to its end.
 #[derive(Clone, Copy, Debug, PartialEq, Eq)]
@@ -25,6 +26,46 @@ pub enum Packing<Text> {
     /// The text up to the fault.
     Part { fault: TextFault, text: Text },
 }
+
+/// What must be known before a report is believed.
+#[derive(Clone, Copy, Debug, PartialEq, Eq)]
+pub enum Warning {
+    /// The console tells, and this dump, the newest, does not.
+    ConsoleTells(Name),
+    /// So many parts of the record that tells are bad.
+    BadTeller(u64),
+    /// So many headers are bad: a log that is lost there can be newer.
+    BadHeaders(u64),
+    /// No zone has a log.
+    NoLog,
+    /// So many zones have bad parts, more than half of them.
+    ManyBad(u64),
+}
+
+/// Why the kernel made a dump, as its head says.
+#[derive(Clone, Copy, Debug, PartialEq, Eq)]
+pub enum DumpReason {
+    Panic,
+    Oops,
+    /// It was told to restart at once, without the orderly way.
+    Emergency,
+    Restart,
+    Halt,
+    PowerOff,
+    /// It was told to restart, to halt or to power off.
+    ShutDown,
+}
+
+/// Words at the head of a dump. The kernel writes them in fs/pstore/platform.c and kernel/printk/printk.c.
+pub const DUMP_REASONS: &[(DumpReason, &[u8])] = &[
+    (DumpReason::Panic, b"Panic#"),
+    (DumpReason::Oops, b"Oops#"),
+    (DumpReason::Emergency, b"Emergency#"),
+    (DumpReason::Restart, b"Restart#"),
+    (DumpReason::Halt, b"Halt#"),
+    (DumpReason::PowerOff, b"Poweroff#"),
+    (DumpReason::ShutDown, b"Shutdown#"),
+];
 
 fn stream_words(fault: Fault) -> &'static str
     ensures { result.now ≡ stream_words fault }

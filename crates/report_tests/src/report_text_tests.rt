@@ -1,9 +1,10 @@
 // Texts of worked images, and dates in them.
 use crate::packed_dumps::{self, DAMAGED, WHOLE};
-use crate::whole_reports::{BARE, has, text_on};
-use crate::worked_deaths::{self, CONSOLE, NAMED, NONE, OOPS, PANIC};
+use crate::whole_reports::{BARE, console, has, text_on};
+use crate::worked_deaths::{self, CONSOLE, FATAL, NAMED, NONE, OOPS, PANIC};
 use outside::Bytes;
 use ramoops_layout::Params;
+use report_text::brief;
 use std::alloc::Global;
 use std::test::Fail;
 
@@ -15,9 +16,15 @@ const PARAMS: Params = Params {
     ..BARE
 };
 
-const TEXT: &str = "a\\x1bb
+const TEXT: &str = "died: of a panic; its line is not in the dump
+  last line  Panic#1 Part1
+  when       2025-11-27 00:04:18.836908 UTC
+  told by    dmesg-ramoops-0
+  image      a\\x1bb
+
+  Panic#1 Part1
+
 zones 2, records 2
-died: no record tells why
 
 zone          state        place     size      start       used corrected   bad
 dump        0 found            0     4096         38         38         0     0
@@ -26,9 +33,6 @@ console     0 found         4096     4096         15         15         0     0
      bytes  time                            record
         14  2025-11-27 00:04:18.836908 UTC  dmesg-ramoops-0
         15                                  console-ramoops-0
-
-last lines of the newest dump
-  Panic#1 Part1
 
 last lines of the console
   \\x1b[31mred
@@ -61,7 +65,7 @@ fn two_records(rt: HostRuntime) -> Result<(), Fail> {
     Ok(())
 }
 
-// The text of a report on a compressed dump, from the table of its record on.
+// The text of a report on a compressed dump.
 fn shown_packed(alloc: Global, packed: &[u8]) -> Result<Bytes, Fail> {
     let image = packed_dumps::image_of(alloc, packed)?;
     text_on(alloc, b"a", &packed_dumps::PARAMS, image)
@@ -69,47 +73,57 @@ fn shown_packed(alloc: Global, packed: &[u8]) -> Result<Bytes, Fail> {
 
 #[test]
 fn compressed_dumps(rt: HostRuntime) -> Result<(), Fail> {
-    for (packed, tail) in [
+    for (packed, lines) in [
         (
             &WHOLE[..],
-            "        24  2025-11-27 00:04:18.836908 UTC  dmesg-ramoops-0
+            "  told by    dmesg-ramoops-0, inflated
+  image      a
 
-last lines of the newest dump
   Panic#1 Part1
   red \\x1b\\x5c<b>
+
+zones 1, records 1
 ",
         ),
         (
             &WHOLE[..22],
-            "        22  2025-11-27 00:04:18.836908 UTC  dmesg-ramoops-0.enc.z
+            "  told by    dmesg-ramoops-0.enc.z, inflated in part
+  image      a
 
-last lines of the newest dump
   Panic#1 Part1
   red \\x1b\\x5c<
   (breaks off: end of input)
+
+zones 1, records 1
 ",
         ),
         (
             &DAMAGED,
-            "        12  2025-11-27 00:04:18.836908 UTC  dmesg-ramoops-0.enc.z
+            "  last line  red \\xc3
+  when       2025-11-27 00:04:18.836908 UTC
+  told by    dmesg-ramoops-0.enc.z, inflated in part
+  image      a
 
-last lines of the newest dump
   
   red \\xc3
   (breaks off: reserved block type)
+
+zones 1, records 1
 ",
         ),
         (
             b"\x07",
-            "         1  2025-11-27 00:04:18.836908 UTC  dmesg-ramoops-0.enc.z
+            "no death: no record tells of the kernel
+  image      a
 
-last lines of the newest dump
   (breaks off: reserved block type)
+
+zones 1, records 1
 ",
         ),
     ] {
         let text = shown_packed(rt.alloc(), packed)?;
-        assert!(rt; str::from_utf8(text.as_slice())?.ends_with(tail), "{tail}");
+        assert!(rt; has(text.as_slice(), lines)?, "{lines}");
     }
     Ok(())
 }
@@ -125,25 +139,211 @@ fn why_it_died(rt: HostRuntime) -> Result<(), Fail> {
     for (logs, died) in [
         (
             [NAMED, NONE, NONE, NONE],
-            "died: Kernel panic - not syncing: <b>\\xff  (dmesg-ramoops-0, 2025-11-27 00:04:18.836908 UTC)
-      cpu 0, PID: 1 Comm: init, sysrq_handle_crash+0x16/0x20
+            "died: Kernel panic - not syncing: <b>\\xff
+  in         sysrq_handle_crash+0x16/0x20
+  signature  kernel panic: <b>\\xff
+  when       2025-11-27 00:04:18.836908 UTC
+  up         2.500000 s
+  task       PID: 1 Comm: init
+  cpu        0
+  kernel     Not tainted 6.1.0 #1
+  told by    dmesg-ramoops-0
+  image      a
+
+  Panic#1 Part1
+> <0>[    2.500000] Kernel panic - not syncing: <b>\\xff
+  <4>[    2.600000] CPU: 0 PID: 1 Comm: init Not tainted 6.1.0 #1
+  <4>[    2.700000] Call Trace:
+  <4>[    2.800000]  panic+0x1/0x2
+  <4>[    2.900000]  sysrq_handle_crash+0x16/0x20
+
+zones 4, records 1
 ",
         ),
         (
             [OOPS, PANIC, NONE, CONSOLE],
-            "died: Kernel panic - not syncing: sysrq triggered crash  (dmesg-ramoops-1, \
-2026-11-26 23:44:14.688627 UTC)
+            "died: Kernel panic - not syncing: sysrq triggered crash
+  signature  kernel panic: sysrq triggered crash
+  when       2026-11-26 23:44:14.688627 UTC
+  up         3.034971 s
+  told by    dmesg-ramoops-1; the console has the same line
+  image      a
+
+  Panic#8 Part1
+  <4>[    2.989466] ---[ end trace 0000000000000000 ]---
+  <4>[    3.014227] RIP: 0010:lkdtm_EXCEPTION+0x8/0x14 [lkdtm]
+  <6>[    3.034160] sysrq: Trigger a crash
+> <0>[    3.034971] Kernel panic - not syncing: sysrq triggered crash
+  <0>[    3.036072] Kernel Offset: disabled
+
+earlier deaths
+  2026-11-26 23:44:14.642000 UTC  dmesg-ramoops-0  \
+BUG: kernel NULL pointer dereference, address: 0000000000000000
+
+zones 4, records 3
 ",
         ),
         (
-            [NONE, NONE, NONE, CONSOLE],
-            "died: Kernel panic - not syncing: sysrq triggered crash  (console-ramoops-0)
+            [NONE, NONE, NONE, FATAL],
+            "died: Oops: a
+  led to     Kernel panic - not syncing: Fatal exception
+  signature  Oops
+  up         3.0 s
+  told by    console-ramoops-0
+  image      a
+
+> [    3.0] Oops: a
+> [    3.1] Kernel panic - not syncing: Fatal exception
+
+zones 4, records 1
 ",
         ),
     ] {
-        let wanted = format!(in rt.alloc(); "{died}\nzone ")?;
         let text = shown_deaths(rt.alloc(), logs)?;
-        assert!(rt; has(text.as_slice(), wanted.as_str())?, "{died}");
+        assert!(rt;
+            str::from_utf8(text.as_slice())?.starts_with(died),
+            "{died}"
+        );
+    }
+    Ok(())
+}
+
+// A log that tells of a boot and of a death a day later.
+const LONG: &[u8] = b"[    0.000000] Linux version 6.1.0 (gcc 12) #1 SMP\n\
+[    0.000000] Command line: console=ttyS0 panic=5\n\
+[93784.500000] BUG: kernel NULL pointer dereference, address: 0000000000000018\n\
+[93784.510000] Modules linked in: boom(O) lkdtm\n\
+[93784.520000] CPU: 1 PID: 40 Comm: init Tainted: G O 6.1.0 #1\n\
+[93784.530000] Hardware name: QEMU Standard PC\n\
+[93784.540000] RIP: 0010:boom_deref+0x5/0x20 [boom]\n";
+
+#[test]
+fn what_is_known(rt: HostRuntime) -> Result<(), Fail> {
+    let text = shown_deaths(rt.alloc(), [NONE, NONE, NONE, LONG])?;
+    let facts = "died: BUG: kernel NULL pointer dereference, address: 0000000000000018
+  in         boom_deref+0x5/0x20 [boom]
+  signature  BUG: kernel NULL pointer dereference in boom_deref
+  up         93784.500000 s (1 d 2 h)
+  task       PID: 40 Comm: init
+  cpu        1
+  kernel     Tainted: G O 6.1.0 #1
+  hardware   QEMU Standard PC
+  modules    boom(O) lkdtm
+  version    6.1.0 (gcc 12) #1 SMP
+  cmdline    console=ttyS0 panic=5
+  told by    console-ramoops-0
+";
+    assert!(rt; str::from_utf8(text.as_slice())?.starts_with(facts));
+    Ok(())
+}
+
+// Logs of which no line tells of a death, and the first lines of their texts.
+#[test]
+fn no_death(rt: HostRuntime) -> Result<(), Fail> {
+    for (logs, first) in [
+        (
+            [
+                NONE,
+                NONE,
+                NONE,
+                b"[  312.884310] reboot: Restarting system\n",
+            ],
+            "no death: an orderly restart
+  last line  reboot: Restarting system
+  up         312.884310 s (5 min 12 s)
+  told by    console-ramoops-0
+  image      a
+
+  [  312.884310] reboot: Restarting system
+
+zones 4, records 1
+",
+        ),
+        (
+            [
+                b"====1764201858.836908-D\nEmergency#1 Part1\n<6>[ 7325.000000] sysrq: Resetting\n",
+                NONE,
+                NONE,
+                NONE,
+            ],
+            "no panic: the kernel was told to restart in an emergency
+  last line  sysrq: Resetting
+  when       2025-11-27 00:04:18.836908 UTC
+  up         7325.000000 s (2 h 2 min)
+  told by    dmesg-ramoops-0
+",
+        ),
+        (
+            [NONE, NONE, NONE, NONE],
+            "no death: no record tells of the kernel
+  image      a
+  careful    no zone has a log: blank, or another place or other parameters
+
+zones 4, records 0
+",
+        ),
+    ] {
+        let text = shown_deaths(rt.alloc(), logs)?;
+        assert!(rt;
+            str::from_utf8(text.as_slice())?.starts_with(first),
+            "{first}"
+        );
+    }
+    Ok(())
+}
+
+#[test]
+fn the_console_tells_and_not_the_dump(rt: HostRuntime) -> Result<(), Fail> {
+    let text = shown_deaths(rt.alloc(), [OOPS, NONE, NONE, CONSOLE])?;
+    let warned = "  told by    console-ramoops-0
+  image      a
+  careful    the newest dump, dmesg-ramoops-0, does not have this line
+";
+    assert!(rt; has(text.as_slice(), warned)?);
+    Ok(())
+}
+
+// Nine of the header's parity bytes are lost, and all of the first block. Both are read as they stand.
+#[test]
+fn warnings_of_bad_parts(rt: HostRuntime) -> Result<(), Fail> {
+    let mut bytes = Vec::new(rt.alloc());
+    bytes.extend_from_slice(&[0x44, 0x42, 0x47, 0x43, 0xe8, 3, 0, 0, 0xe8, 3, 0, 0])?;
+    bytes.extend_from_slice(b"Kernel panic - not syncing: a\n")?;
+    bytes.resize(4089, 0)?;
+    bytes.extend_from_slice(&[249, 61, 125, 1, 138, 99, 55])?;
+    let text = text_on(rt.alloc(), b"a", &console(16), bytes)?;
+    let warned = "  image      a
+  careful    bad parts in the record that tells: 2; its lines can be wrong
+  careful    bad headers: 1; a log that is lost there can be newer
+  careful    zones with bad parts: 1; the place or the parameters can be others
+";
+    assert!(rt; has(text.as_slice(), warned)?);
+    Ok(())
+}
+
+#[test]
+fn one_line_an_image(rt: HostRuntime) -> Result<(), Fail> {
+    for (logs, line) in [
+        (
+            [NAMED, NONE, NONE, NONE],
+            "a  2025-11-27 00:04:18.836908 UTC  kernel panic: <b>\\xff\n",
+        ),
+        (
+            [NONE, NONE, NONE, LONG],
+            "a  -  BUG: kernel NULL pointer dereference in boom_deref\n",
+        ),
+        (
+            [NONE, NONE, NONE, b"[  1.0] a\n"],
+            "a  -  no death: the log breaks off; the machine hung, lost power or was reset\n",
+        ),
+        (
+            [NONE, NONE, NONE, NONE],
+            "a  -  no death: no record tells of the kernel\n",
+        ),
+    ] {
+        let report = worked_deaths::report_on(rt.alloc(), logs)?;
+        let text = brief(rt.alloc(), b"a", &report)?;
+        assert!(rt; text.as_slice() == line.as_bytes(), "{line}");
     }
     Ok(())
 }

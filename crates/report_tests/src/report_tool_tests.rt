@@ -54,12 +54,13 @@ fn each_format(rt: HostRuntime) -> Result<(), Fail> {
     for (format, front, piece) in [
         (
             Format::Text,
-            "a.img\nzones 1, records 1\ndied: no record tells why\n",
+            "no death: the log breaks off; the machine hung, lost power or was reset\n  last line  a<\n",
             "console-ramoops-0\n",
         ),
         (
             Format::Json,
-            "{\"death\":null,\"parameters\":{\"block_size\":128,",
+            "{\"death\":null,\"end\":{\"ending\":\"broken_off\",\"line\":\"a<\",\"reason\":null,\"record\":\"console-ramoops-0\"},\
+\"machine\":null,\"parameters\":{\"block_size\":128,",
             "\"text\":\"a<\\n\"",
         ),
         (

@@ -11,8 +11,8 @@ use Rattle.report_text.specs.Pieces.{Part}
 use Rattle.report_text.specs.Tails.{columns, rows_from, row_parts, rows_parts, row_unless_empty}
 
 -- the parts so far, with those of the rows that are left, are all that are wanted
-pub record IsLeft (done : List Part) (row : List ℕ) (taken : ℕ) (bytes : List ℕ) (all : List Part) : Type 0 where
-  pub is : done ++ rows_parts (rows_from row taken bytes) ≡ all
+pub record IsLeft (lead : List ℕ) (done : List Part) (row : List ℕ) (taken : ℕ) (bytes : List ℕ) (all : List Part) : Type 0 where
+  pub is : done ++ rows_parts lead (rows_from row taken bytes) ≡ all
 
 newline-row : (row : List ℕ) (taken : ℕ) (b : ℕ) (bs : List ℕ) → (b == 10) ≡ true
     → rows_from row taken (b ∷ bs) ≡ row ∷ rows_from [] 0 bs
@@ -36,32 +36,32 @@ longer-row row taken b bs e f = ap₂ (λ (t u : Bool). if t then row ∷ rows_f
     else (if u then row ∷ rows_from (b ∷ []) (columns b) bs
     else rows_from (row ++ b ∷ []) (taken + columns b) bs)) e f
 
-moved : (done new : List Part) (row : List ℕ) (rows : List (List ℕ)) → new ≡ done ++ row_parts row
-    → new ++ rows_parts rows ≡ done ++ rows_parts (row ∷ rows)
-moved done new row rows e =
-    ap (λ (ps : List Part). ps ++ rows_parts rows) e ∙ append_assoc done (row_parts row) (rows_parts rows)
+moved : (lead : List ℕ) (done new : List Part) (row : List ℕ) (rows : List (List ℕ)) → new ≡ done ++ row_parts lead row
+    → new ++ rows_parts lead rows ≡ done ++ rows_parts lead (row ∷ rows)
+moved lead done new row rows e =
+    ap (λ (ps : List Part). ps ++ rows_parts lead rows) e ∙ append_assoc done (row_parts lead row) (rows_parts lead rows)
 
-pub at-newline : (done new : List Part) (row : List ℕ) (taken : ℕ) (b : ℕ) (bs : List ℕ) (all : List Part)
-    → IsLeft done row taken (b ∷ bs) all → (b == 10) ≡ true → new ≡ done ++ row_parts row → IsLeft new [] 0 bs all
-at-newline done new row taken b bs all l e f = record {
-  is = moved done new row (rows_from [] 0 bs) f
-      ∙ ap (λ (rows : List (List ℕ)). done ++ rows_parts rows) (sym (newline-row row taken b bs e)) ∙ l.is;
+pub at-newline : (lead : List ℕ) (done new : List Part) (row : List ℕ) (taken : ℕ) (b : ℕ) (bs : List ℕ) (all : List Part)
+    → IsLeft lead done row taken (b ∷ bs) all → (b == 10) ≡ true → new ≡ done ++ row_parts lead row → IsLeft lead new [] 0 bs all
+at-newline lead done new row taken b bs all l e f = record {
+  is = moved lead done new row (rows_from [] 0 bs) f
+      ∙ ap (λ (rows : List (List ℕ)). done ++ rows_parts lead rows) (sym (newline-row row taken b bs e)) ∙ l.is;
 }
 
-pub at-full : (done new : List Part) (row : List ℕ) (taken : ℕ) (b : ℕ) (bs : List ℕ) (all : List Part)
-    → IsLeft done row taken (b ∷ bs) all → (b == 10) ≡ false → 76 < taken + columns b → new ≡ done ++ row_parts row
-    → IsLeft new (b ∷ []) (columns b) bs all
-at-full done new row taken b bs all l e n f = record {
-  is = moved done new row (rows_from (b ∷ []) (columns b) bs) f
-      ∙ ap (λ (rows : List (List ℕ)). done ++ rows_parts rows)
+pub at-full : (lead : List ℕ) (done new : List Part) (row : List ℕ) (taken : ℕ) (b : ℕ) (bs : List ℕ) (all : List Part)
+    → IsLeft lead done row taken (b ∷ bs) all → (b == 10) ≡ false → 76 < taken + columns b → new ≡ done ++ row_parts lead row
+    → IsLeft lead new (b ∷ []) (columns b) bs all
+at-full lead done new row taken b bs all l e n f = record {
+  is = moved lead done new row (rows_from (b ∷ []) (columns b) bs) f
+      ∙ ap (λ (rows : List (List ℕ)). done ++ rows_parts lead rows)
       (sym (full-row row taken b bs e (lt-ltb 76 (taken + columns b) n))) ∙ l.is;
 }
 
-pub at-byte : (done : List Part) (row : List ℕ) (taken : ℕ) (b : ℕ) (bs : List ℕ) (all : List Part)
-    → IsLeft done row taken (b ∷ bs) all → (b == 10) ≡ false → taken + columns b ≤ 76
-    → IsLeft done (row ++ b ∷ []) (taken + columns b) bs all
-at-byte done row taken b bs all l e n = record {
-  is = ap (λ (rows : List (List ℕ)). done ++ rows_parts rows)
+pub at-byte : (lead : List ℕ) (done : List Part) (row : List ℕ) (taken : ℕ) (b : ℕ) (bs : List ℕ) (all : List Part)
+    → IsLeft lead done row taken (b ∷ bs) all → (b == 10) ≡ false → taken + columns b ≤ 76
+    → IsLeft lead done (row ++ b ∷ []) (taken + columns b) bs all
+at-byte lead done row taken b bs all l e n = record {
+  is = ap (λ (rows : List (List ℕ)). done ++ rows_parts lead rows)
       (sym (longer-row row taken b bs e (le-ltb 76 (taken + columns b) n))) ∙ l.is;
 }
 
@@ -70,15 +70,15 @@ unfolding rows_from
 last-row row taken = refl
 
 -- at the end, with a row that is begun or none
-pub at-end : (done : List Part) (taken : ℕ) (all : List Part) → IsLeft done [] taken [] all → done ≡ all
-at-end done taken all l =
+pub at-end : (lead : List ℕ) (done : List Part) (taken : ℕ) (all : List Part) → IsLeft lead done [] taken [] all → done ≡ all
+at-end lead done taken all l =
     sym (append-nil done)
-    ∙ ap (λ (rows : List (List ℕ)). done ++ rows_parts rows) (sym (last-row [] taken)) ∙ l.is
+    ∙ ap (λ (rows : List (List ℕ)). done ++ rows_parts lead rows) (sym (last-row [] taken)) ∙ l.is
 
-pub at-last : (done new : List Part) (b : ℕ) (row : List ℕ) (taken : ℕ) (all : List Part)
-    → IsLeft done (b ∷ row) taken [] all → new ≡ done ++ row_parts (b ∷ row) → new ≡ all
-at-last done new b row taken all l e =
-    e ∙ ap (λ (rows : List (List ℕ)). done ++ rows_parts rows) (sym (last-row (b ∷ row) taken)) ∙ l.is
+pub at-last : (lead : List ℕ) (done new : List Part) (b : ℕ) (row : List ℕ) (taken : ℕ) (all : List Part)
+    → IsLeft lead done (b ∷ row) taken [] all → new ≡ done ++ row_parts lead (b ∷ row) → new ≡ all
+at-last lead done new b row taken all l e =
+    e ∙ ap (λ (rows : List (List ℕ)). done ++ rows_parts lead rows) (sym (last-row (b ∷ row) taken)) ∙ l.is
 
 -- ---- the row that is begun is a range of the bytes
 
@@ -100,75 +100,75 @@ begun-more bytes from i d f h =
 
 -- ---- one byte more, and the end
 
-here : (done : List Part) (bs : List ℕ) (from i taken d : ℕ) (all : List Part) → i < length bs
-    → IsLeft done (slice_range bs from i) taken (drop i bs) all
-    → IsLeft done (slice_range bs from i) taken (get_or bs i d ∷ drop (i + 1) bs) all
-here done bs from i taken d all h l =
-    subst (λ (xs : List ℕ). IsLeft done (slice_range bs from i) taken xs all) (drop_more bs i d h) l
+here : (lead : List ℕ) (done : List Part) (bs : List ℕ) (from i taken d : ℕ) (all : List Part) → i < length bs
+    → IsLeft lead done (slice_range bs from i) taken (drop i bs) all
+    → IsLeft lead done (slice_range bs from i) taken (get_or bs i d ∷ drop (i + 1) bs) all
+here lead done bs from i taken d all h l =
+    subst (λ (xs : List ℕ). IsLeft lead done (slice_range bs from i) taken xs all) (drop_more bs i d h) l
 
-begins : (done : List Part) (row begun : List ℕ) (taken filled : ℕ) (bytes : List ℕ) (all : List Part)
-    → begun ≡ row → filled ≡ taken → IsLeft done row taken bytes all → IsLeft done begun filled bytes all
-begins done row begun taken filled bytes all e f l = record {
-  is = ap₂ (λ (r : List ℕ) (t : ℕ). done ++ rows_parts (rows_from r t bytes)) e f ∙ l.is;
+begins : (lead : List ℕ) (done : List Part) (row begun : List ℕ) (taken filled : ℕ) (bytes : List ℕ) (all : List Part)
+    → begun ≡ row → filled ≡ taken → IsLeft lead done row taken bytes all → IsLeft lead done begun filled bytes all
+begins lead done row begun taken filled bytes all e f l = record {
+  is = ap₂ (λ (r : List ℕ) (t : ℕ). done ++ rows_parts lead (rows_from r t bytes)) e f ∙ l.is;
 }
 
-pub newline-step : (done new : List Part) (bs : List ℕ) (from i taken d begun filled : ℕ) (all : List Part)
-    → i < length bs → IsLeft done (slice_range bs from i) taken (drop i bs) all → get_or bs i d ≡ 10
-    → new ≡ done ++ row_parts (slice_range bs from i) → begun ≡ i + 1 → filled ≡ 0
-    → IsLeft new (slice_range bs begun (i + 1)) filled (drop (i + 1) bs) all
-newline-step done new bs from i taken d begun filled all h l e f eb ef =
-    begins new [] (slice_range bs begun (i + 1)) 0 filled (drop (i + 1) bs) all
+pub newline-step : (lead : List ℕ) (done new : List Part) (bs : List ℕ) (from i taken d begun filled : ℕ) (all : List Part)
+    → i < length bs → IsLeft lead done (slice_range bs from i) taken (drop i bs) all → get_or bs i d ≡ 10
+    → new ≡ done ++ row_parts lead (slice_range bs from i) → begun ≡ i + 1 → filled ≡ 0
+    → IsLeft lead new (slice_range bs begun (i + 1)) filled (drop (i + 1) bs) all
+newline-step lead done new bs from i taken d begun filled all h l e f eb ef =
+    begins lead new [] (slice_range bs begun (i + 1)) 0 filled (drop (i + 1) bs) all
     (ap (λ (k : ℕ). slice_range bs k (i + 1)) eb ∙ none-begun bs (i + 1)) ef
-    (at-newline done new (slice_range bs from i) taken (get_or bs i d) (drop (i + 1) bs) all
-    (here done bs from i taken d all h l) (ap (λ (b : ℕ). b == 10) e) f)
+    (at-newline lead done new (slice_range bs from i) taken (get_or bs i d) (drop (i + 1) bs) all
+    (here lead done bs from i taken d all h l) (ap (λ (b : ℕ). b == 10) e) f)
 
-pub full-step : (done new : List Part) (bs : List ℕ) (from i taken d next begun filled : ℕ) (all : List Part)
-    → i < length bs → IsLeft done (slice_range bs from i) taken (drop i bs) all → (get_or bs i d ≡ 10 → ⊥)
+pub full-step : (lead : List ℕ) (done new : List Part) (bs : List ℕ) (from i taken d next begun filled : ℕ) (all : List Part)
+    → i < length bs → IsLeft lead done (slice_range bs from i) taken (drop i bs) all → (get_or bs i d ≡ 10 → ⊥)
     → next ≡ columns (get_or bs i d) → 76 < taken + next
-    → new ≡ done ++ row_parts (slice_range bs from i) → begun ≡ i → filled ≡ next
-    → IsLeft new (slice_range bs begun (i + 1)) filled (drop (i + 1) bs) all
-full-step done new bs from i taken d next begun filled all h l other e full f eb ef =
-    begins new (get_or bs i d ∷ []) (slice_range bs begun (i + 1)) (columns (get_or bs i d)) filled
+    → new ≡ done ++ row_parts lead (slice_range bs from i) → begun ≡ i → filled ≡ next
+    → IsLeft lead new (slice_range bs begun (i + 1)) filled (drop (i + 1) bs) all
+full-step lead done new bs from i taken d next begun filled all h l other e full f eb ef =
+    begins lead new (get_or bs i d ∷ []) (slice_range bs begun (i + 1)) (columns (get_or bs i d)) filled
     (drop (i + 1) bs) all (ap (λ (k : ℕ). slice_range bs k (i + 1)) eb ∙ one-begun bs i d h) (ef ∙ e)
-    (at-full done new (slice_range bs from i) taken (get_or bs i d) (drop (i + 1) bs) all
-    (here done bs from i taken d all h l) (ne_eqb (get_or bs i d) 10 other)
+    (at-full lead done new (slice_range bs from i) taken (get_or bs i d) (drop (i + 1) bs) all
+    (here lead done bs from i taken d all h l) (ne_eqb (get_or bs i d) 10 other)
     (subst (λ (k : ℕ). 76 < taken + k) e full) f)
 
-pub byte-step : (done new : List Part) (bs : List ℕ) (from i taken d next begun filled : ℕ) (all : List Part)
-    → i < length bs → from ≤ i → IsLeft done (slice_range bs from i) taken (drop i bs) all
+pub byte-step : (lead : List ℕ) (done new : List Part) (bs : List ℕ) (from i taken d next begun filled : ℕ) (all : List Part)
+    → i < length bs → from ≤ i → IsLeft lead done (slice_range bs from i) taken (drop i bs) all
     → (get_or bs i d ≡ 10 → ⊥) → next ≡ columns (get_or bs i d) → taken + next ≤ 76 → new ≡ done → begun ≡ from
-    → filled ≡ taken + next → IsLeft new (slice_range bs begun (i + 1)) filled (drop (i + 1) bs) all
-byte-step done new bs from i taken d next begun filled all h p l other e room f eb ef =
-    begins new (slice_range bs from i ++ get_or bs i d ∷ []) (slice_range bs begun (i + 1))
+    → filled ≡ taken + next → IsLeft lead new (slice_range bs begun (i + 1)) filled (drop (i + 1) bs) all
+byte-step lead done new bs from i taken d next begun filled all h p l other e room f eb ef =
+    begins lead new (slice_range bs from i ++ get_or bs i d ∷ []) (slice_range bs begun (i + 1))
     (taken + columns (get_or bs i d)) filled (drop (i + 1) bs) all
     (ap (λ (k : ℕ). slice_range bs k (i + 1)) eb ∙ begun-more bs from i d p h)
     (ef ∙ ap (λ (k : ℕ). taken + k) e)
-    (at-byte new (slice_range bs from i) taken (get_or bs i d) (drop (i + 1) bs) all
-    (here new bs from i taken d all h
-    (subst (λ (ps : List Part). IsLeft ps (slice_range bs from i) taken (drop i bs) all) (sym f) l))
+    (at-byte lead new (slice_range bs from i) taken (get_or bs i d) (drop (i + 1) bs) all
+    (here lead new bs from i taken d all h
+    (subst (λ (ps : List Part). IsLeft lead ps (slice_range bs from i) taken (drop i bs) all) (sym f) l))
     (ne_eqb (get_or bs i d) 10 other) (subst (λ (k : ℕ). taken + k ≤ 76) e room))
 
-pub last-step : (done new : List Part) (bs : List ℕ) (from i taken d : ℕ) (all : List Part) → length bs ≤ i
-    → from < length bs → IsLeft done (slice_range bs from i) taken (drop i bs) all
-    → new ≡ done ++ row_parts (slice_range bs from (length bs)) → new ≡ all
-last-step done new bs from i taken d all past h l e =
+pub last-step : (lead : List ℕ) (done new : List Part) (bs : List ℕ) (from i taken d : ℕ) (all : List Part) → length bs ≤ i
+    → from < length bs → IsLeft lead done (slice_range bs from i) taken (drop i bs) all
+    → new ≡ done ++ row_parts lead (slice_range bs from (length bs)) → new ≡ all
+last-step lead done new bs from i taken d all past h l e =
     let row : slice_range bs from i ≡ get_or bs from d ∷ drop (from + 1) bs =
     take_all (i - from) (drop from bs) (omega (arith, length-drop from bs, past)) ∙ drop_more bs from d h in
-    let left : IsLeft done (get_or bs from d ∷ drop (from + 1) bs) taken [] all = record {
-      is = sym (ap₂ (λ (r xs : List ℕ). done ++ rows_parts (rows_from r taken xs)) row (drop_of_length-le bs past))
+    let left : IsLeft lead done (get_or bs from d ∷ drop (from + 1) bs) taken [] all = record {
+      is = sym (ap₂ (λ (r xs : List ℕ). done ++ rows_parts lead (rows_from r taken xs)) row (drop_of_length-le bs past))
           ∙ l.is;
     } in
-    at-last done new (get_or bs from d) (drop (from + 1) bs) taken all left
-    (e ∙ ap (λ (r : List ℕ). done ++ row_parts r)
+    at-last lead done new (get_or bs from d) (drop (from + 1) bs) taken all left
+    (e ∙ ap (λ (r : List ℕ). done ++ row_parts lead r)
     (take_all (length bs - from) (drop from bs) (omega (arith, length-drop from bs)) ∙ drop_more bs from d h))
 
-pub end-step : (done : List Part) (bs : List ℕ) (from i taken : ℕ) (all : List Part) → length bs ≤ i → length bs ≤ from
-    → IsLeft done (slice_range bs from i) taken (drop i bs) all → done ≡ all
-end-step done bs from i taken all past none l =
+pub end-step : (lead : List ℕ) (done : List Part) (bs : List ℕ) (from i taken : ℕ) (all : List Part) → length bs ≤ i → length bs ≤ from
+    → IsLeft lead done (slice_range bs from i) taken (drop i bs) all → done ≡ all
+end-step lead done bs from i taken all past none l =
     let row : slice_range bs from i ≡ [] =
     ap (λ (xs : List ℕ). take (i - from) xs) (drop_of_length-le bs none) ∙ take_all (i - from) [] (omega arith) in
-    let left : IsLeft done [] taken [] all = record {
-      is = sym (ap₂ (λ (r xs : List ℕ). done ++ rows_parts (rows_from r taken xs)) row (drop_of_length-le bs past))
+    let left : IsLeft lead done [] taken [] all = record {
+      is = sym (ap₂ (λ (r xs : List ℕ). done ++ rows_parts lead (rows_from r taken xs)) row (drop_of_length-le bs past))
           ∙ l.is;
     } in
-    at-end done taken all left
+    at-end lead done taken all left

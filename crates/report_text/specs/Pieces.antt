@@ -1,26 +1,34 @@
 -- The pieces of a text
 use Rattle.std.specs.Prelude.{ℕ, ◌-◌, ◌++◌, List, length, take, min, map, flat_map, codes, decimal}
+use Rattle.zone_spec.specs.declared.Name.{Name}
+use Rattle.zone_spec.specs.declared.Time.{Time}
+use Rattle.zone_spec.specs.Names.{name_text}
+use Rattle.report_spec.specs.Moments.{moment_text}
 use Rattle.report_spec.specs.Visible.{visible}
 use Rattle.report_text.specs.declared.pieces.Piece.{Piece}
-use Rattle.report_text.specs.declared.pieces.Piece.TheVariants.{Own, Number, Date, Foreign}
+use Rattle.report_text.specs.declared.pieces.Piece.TheVariants.{Own, Number, Foreign, Moment as MomentPiece}
+use Rattle.report_text.specs.declared.pieces.Piece.TheVariants.{Named as NamedPiece}
 
--- a part of a text: its own words; a number, with blanks before it up to so many columns; a number of a date, with
--- zeros before it; or foreign bytes
+-- a part of a text: its own words; a number, with blanks before it up to so many columns; foreign bytes; a time; or the
+-- name of a record's file
 pub data Part : Type 0 where
   Words : (text : List ℕ) → Part
   Count : (columns n : ℕ) → Part
-  Digits : (columns n : ℕ) → Part
   Bytes : (bytes : List ℕ) → Part
+  Moment : (time : Time) → Part
+  Named : (name : Name) → Part
 
--- a number in decimal, after as much of a filling as makes so many columns
-abbrev pub filled : List ℕ → ℕ → ℕ → List ℕ
-filled filling columns n = take (min (columns - length (decimal n)) (length filling)) filling ++ decimal n
+-- a number in decimal, after as many blanks as make so many columns
+abbrev pub filled : ℕ → ℕ → List ℕ
+filled columns n =
+    take (min (columns - length (decimal n)) 20) (codes "                    ") ++ decimal n
 
 abbrev pub part_text : Part → List ℕ
 part_text (Words text) = visible text
-part_text (Count columns n) = visible (filled (codes "                    ") columns n)
-part_text (Digits columns n) = visible (filled (codes "00000000000000000000") columns n)
+part_text (Count columns n) = visible (filled columns n)
 part_text (Bytes bytes) = visible bytes
+part_text (Moment time) = visible (moment_text time)
+part_text (Named name) = visible (name_text name)
 
 -- the text of parts, end to end
 abbrev pub parts_text : List Part → List ℕ
@@ -30,8 +38,9 @@ parts_text parts = flat_map part_text parts
 abbrev pub part_of : Piece → Part
 part_of (Own text) = Words text.now
 part_of (Number columns n) = Count columns n
-part_of (Date columns n) = Digits columns n
 part_of (Foreign bytes) = Bytes bytes.now
+part_of (MomentPiece time) = Moment time
+part_of (NamedPiece name) = Named name
 
 abbrev pub parts : List Piece → List Part
 parts pieces = map part_of pieces

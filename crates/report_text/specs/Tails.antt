@@ -42,16 +42,21 @@ rows_from row taken (b ∷ bs) =
     else (if nat_lt 76 (taken + columns b) then row ∷ rows_from (b ∷ []) (columns b) bs
     else rows_from (row ++ b ∷ []) (taken + columns b) bs)
 
-abbrev pub row_parts : List ℕ → List Part
-row_parts row = Words (codes "  ") ∷ Bytes row ∷ Words (10 ∷ []) ∷ []
+-- a row, behind these two columns
+abbrev pub row_parts : List ℕ → List ℕ → List Part
+row_parts lead row = Words lead ∷ Bytes row ∷ Words (10 ∷ []) ∷ []
 
-abbrev pub rows_parts : List (List ℕ) → List Part
-rows_parts rows = flat_map row_parts rows
+abbrev pub rows_parts : List ℕ → List (List ℕ) → List Part
+rows_parts lead rows = flat_map (row_parts lead) rows
+
+-- the rows of lines
+abbrev pub lines_parts : List ℕ → List ℕ → List Part
+lines_parts lead bytes = rows_parts lead (rows_from [] 0 bytes)
 
 -- ---- a record's end
 
 abbrev pub tail_rows : ℕ → List ℕ → List Part
-tail_rows most bytes = rows_parts (rows_from [] 0 (last_lines most bytes))
+tail_rows most bytes = lines_parts (codes "  ") (last_lines most bytes)
 
 -- a packed text that goes no further, and why
 abbrev pub break_parts : Packing (List ℕ) → List Part

@@ -1,47 +1,74 @@
 -- The whole text of a report
-use Rattle.std.specs.Prelude.{◌≡◌, ℕ, List, [], ◌∷◌, ◌++◌, length, flat_map, codes}
+use Rattle.std.specs.Prelude.{◌≡◌, ℕ, List, [], ◌∷◌, ◌++◌, length, flat_map, codes, Option, Some, None}
+use Rattle.std.specs.Option.{option_map, option_or}
 use Rattle.prz_read.specs.Saving.{SavedLogs, saved}
-use Rattle.report_spec.specs.Packed.{RecordShown}
+use Rattle.report_spec.specs.Packed.{RecordShown, said}
 use Rattle.report_spec.specs.Newest.{newest, console_of, android_log_of}
-use Rattle.report_spec.specs.Deaths.{death_told}
+use Rattle.report_spec.specs.Deaths.{DeathTold, death_told, others_told}
+use Rattle.report_spec.specs.Facts.{signature_told}
 use Rattle.region_report.specs.Reports.{ReportHeld}
+use Rattle.region_report.specs.Warned.{warnings_by}
 use Rattle.report_text.specs.Pieces.{Part, Words, Count, Bytes, parts_text}
-use Rattle.report_text.specs.Tables.{zone_row, AreRecordRows}
+use Rattle.report_text.specs.Tables.{zone_row, record_row}
 use Rattle.report_text.specs.Tails.{tail_parts}
-use Rattle.report_text.specs.Died.{IsDied}
+use Rattle.report_text.specs.Around.{around_parts}
+use Rattle.report_text.specs.Facts.{first_parts, warnings_parts, short_parts}
+use Rattle.report_text.specs.Earlier.{earlier_parts}
 
--- the title, and how many zones and records there are
-abbrev pub heading_parts : List ℕ → ReportHeld → List Part
-heading_parts title r =
-    Bytes title ∷ Words (10 ∷ codes "zones ") ∷ Count 1 (length r.logs.zones) ∷ Words (codes ", records ")
-    ∷ Count 1 (length r.records) ∷ Words (10 ∷ []) ∷ []
+-- the newest dump, or without one the console
+abbrev pub newest_log : List RecordShown → Option RecordShown
+newest_log records = option_or (newest records) (console_of records)
 
--- a head, and a row for each zone
-abbrev pub zone_table : SavedLogs → List Part
-zone_table logs =
-    Words (codes "zone          state        place     size      start       used corrected   bad" ++ 10 ∷ [])
+-- a free line, and the lines that tell why the machine died, without the notice; or the last lines of the newest log
+abbrev pub told_lines : ℕ → List RecordShown → Option DeathTold → List Part
+told_lines most records None = tail_parts (codes "\n") most (newest_log records)
+told_lines most records (Some t) =
+    Words (codes "\n") ∷ [] ++ around_parts (said t.teller) most t.death
+
+abbrev pub others_parts : List RecordShown → Option DeathTold → List Part
+others_parts records None = []
+others_parts records (Some t) = earlier_parts (others_told t.teller.name records)
+
+-- a free line, how many zones and records there are, a head, and a row for each zone
+abbrev pub zone_table : SavedLogs → ℕ → List Part
+zone_table logs records =
+    Words (codes "\nzones ") ∷ Count 1 (length logs.zones) ∷ Words (codes ", records ") ∷ Count 1 records
+    ∷ Words (codes "\n\nzone          state        place     size      start       used corrected   bad\n")
     ∷ flat_map zone_row (saved logs)
 
 -- a head, and a row for each record
-abbrev pub IsRecordTable : List RecordShown → List Part → Type 0
-IsRecordTable records table = (rows : List Part) × AreRecordRows records rows
-    × (table ≡ Words (10 ∷ codes "     bytes  time                            record" ++ 10 ∷ []) ∷ rows)
+abbrev pub record_table : List RecordShown → List Part
+record_table records =
+    Words (codes "\n     bytes  time                            record\n") ∷ flat_map record_row records
 
--- at most so many last lines of the newest dump, and ten of the console and of Android's log
-abbrev pub tails : ℕ → List RecordShown → List Part
-tails most records =
-    tail_parts (10 ∷ codes "last lines of the newest dump" ++ 10 ∷ []) most (newest records)
-    ++ tail_parts (10 ∷ codes "last lines of the console" ++ 10 ∷ []) 10 (console_of records)
-    ++ tail_parts (10 ∷ codes "last lines of Android's log" ++ 10 ∷ []) 10 (android_log_of records)
+-- ten last lines of the console and of Android's log
+abbrev pub tails : List RecordShown → List Part
+tails records =
+    tail_parts (codes "\nlast lines of the console\n") 10 (console_of records)
+    ++ tail_parts (codes "\nlast lines of Android's log\n") 10 (android_log_of records)
 
--- the heading, why the machine died, a free line, the tables, and the last lines
-abbrev pub AreParts : List ℕ → ℕ → ReportHeld → List Part → Type 0
-AreParts title most r parts = (died table : List Part) × IsDied (death_told r.records) died
-    × IsRecordTable r.records table
-    × (parts ≡ heading_parts title r ++ died ++ Words (10 ∷ []) ∷ [] ++ zone_table r.logs ++ table ++ tails most r.records)
+-- why the machine died and what is known of it, warnings, the lines that tell it, and earlier deaths
+abbrev pub answer_parts : List ℕ → ℕ → ReportHeld → Option DeathTold → List Part
+answer_parts title most r told =
+    first_parts title (signature_told told) r.records told ++ warnings_parts (warnings_by r told) ++ told_lines most r.records told
+    ++ others_parts r.records told
 
--- the text under this title, with at most so many lines of the newest dump
-pub record IsTextOf (title : List ℕ) (most : ℕ) (report : ReportHeld) (text : List ℕ) : Type 0 where
-  pub parts : List Part
-  pub are : AreParts title most report parts
-  pub text_is : text ≡ parts_text parts
+-- and then the tables, and last lines
+abbrev pub all_parts : List ℕ → ℕ → ReportHeld → Option DeathTold → List Part
+all_parts title most r told =
+    answer_parts title most r told ++ zone_table r.logs (length r.records) ++ record_table r.records
+    ++ tails r.records
+
+-- the text under this title, with at most so many lines below the one that tells
+unfoldable pub text_of : List ℕ → ℕ → ReportHeld → List ℕ
+text_of title most r = parts_text (all_parts title most r (death_told r.records))
+
+abbrev pub IsTextOf : List ℕ → ℕ → ReportHeld → List ℕ → Type 0
+IsTextOf title most report text = text ≡ text_of title most report
+
+-- one line: the title, the time of the record that tells, and the signature; or how the log ends
+abbrev pub line_parts : List ℕ → ReportHeld → Option DeathTold → List Part
+line_parts title r told = Bytes title ∷ [] ++ short_parts (signature_told told) r.records told
+
+unfoldable pub brief_of : List ℕ → ReportHeld → List ℕ
+brief_of title r = parts_text (line_parts title r (death_told r.records))

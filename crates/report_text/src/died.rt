@@ -1,117 +1,223 @@
-// Why the machine died, in two lines.
+// Why the machine died, or how the log ends.
 ghost use Rattle.std.specs.Prelude.{◌≡◌, ◌++◌, OnOk};
-ghost use Rattle.report_spec.specs.Deaths.{death_told};
-ghost use Rattle.region_report.specs.Tellers.{as_told};
+ghost use Rattle.std.specs.Option.{option_copied};
+ghost use Rattle.region_report.specs.Tellers.{as_told, told_in, as_ended, end_in};
 ghost use Rattle.report_text.specs.Pieces.{parts};
-ghost use Rattle.report_text.specs.Tables.{Adds};
-ghost use Rattle.report_text.specs.Died.{named_parts, end_parts, context_parts, said_parts, IsWhen, IsDeath, IsDied};
+ghost use Rattle.report_text.specs.Facts.{second_parts, reason_parts, shared_words, console_words, death_parts};
+ghost use Rattle.report_text.specs.Facts.{dump_words, ending_words, no_death_words, ended_parts, end_parts, unknown_parts};
+ghost use Rattle.report_text.specs.Facts.{unless_ended, first_parts};
 
+use crate::facts::{add_bytes, add_function, add_machine, add_named, add_source, add_up, add_when};
 use crate::pieces::{Piece, add};
-use crate::records::{add_name, add_time};
 use death::part;
-use death_spec::{Death, Span};
-use region_report::{RecordReport, Telling, death_told};
+use death_spec::{Death, Ending, Line};
+use region_report::{
+    DumpReason, End, RecordReport, Telling, console, dump_reason, end_told, has_telling_line,
+    is_console, machine_told, uptime,
+};
 use std::alloc::AllocError;
-use zone_spec::Time;
 
-/// Adds a part of the second line, if there is one.
-fn add_named<'a>(
+fn add_second<'a>(
     pieces: &mut Vec<Piece<'a>>,
-    begun: bool,
-    label: &'static str,
     text: &'a [u8],
-    span: Option<Span>,
+    second: Option<Line>,
 ) -> Result<(), AllocError>
-    ensures { OnOk result (parts pieces.new.items
-        ≡ parts pieces.old.items ++ named_parts begun label.entry.now text.entry.now span) }
+    ensures { OnOk result (parts pieces.new.items ≡ parts pieces.old.items ++ second_parts text.entry.now second) }
 {
-    match span {
-        Some(span) => add(
+    match second {
+        Some(line) => add(
             pieces,
             &[
-                Piece::Own(if begun { ", " } else { "      " }),
-                Piece::Own(label),
-                Piece::Foreign(part(text, span.start, span.end)),
+                Piece::Own("  led to     "),
+                Piece::Foreign(part(text, line.text, line.end)),
+                Piece::Own("\n"),
             ],
         ),
         None => Ok(()),
     }
 }
 
-fn add_end(pieces: &mut Vec<Piece<'_>>, begun: bool) -> Result<(), AllocError>
-    ensures { OnOk result (parts pieces.new.items ≡ parts pieces.old.items ++ end_parts begun) }
-{
-    if begun {
-        add(pieces, &[Piece::Own("\n")])
-    } else {
-        Ok(())
-    }
-}
-
-/// Adds the processor, the task and the function, as far as they are named.
-fn add_context<'a>(
+/// Adds the telling line, the panic that it was the cause of, the function, and the signature.
+fn add_reason<'a>(
     pieces: &mut Vec<Piece<'a>>,
+    signature: &'a [u8],
     text: &'a [u8],
     death: Death,
 ) -> Result<(), AllocError>
-    ensures { OnOk result (parts pieces.new.items
-        ≡ parts pieces.old.items ++ context_parts text.entry.now death) }
-{
-    let has_cpu = death.cpu.is_some();
-    let has_either = has_cpu || death.task.is_some();
-    add_named(pieces, false, "cpu ", text, death.cpu)?;
-    add_named(pieces, has_cpu, "", text, death.task)?;
-    add_named(pieces, has_either, "", text, death.function)?;
-    add_end(pieces, has_either || death.function.is_some())
-}
-
-fn add_said<'a>(pieces: &mut Vec<Piece<'a>>, text: &'a [u8], death: Death) -> Result<(), AllocError>
-    ensures { OnOk result (parts pieces.new.items ≡ parts pieces.old.items ++ said_parts text.entry.now death) }
+    ensures { OnOk result (parts pieces.new.items ≡ parts pieces.old.items
+        ++ reason_parts signature.entry.now text.entry.now death) }
 {
     add(
         pieces,
         &[
             Piece::Own("died: "),
             Piece::Foreign(part(text, death.telling.text, death.telling.end)),
-            Piece::Own("  ("),
+            Piece::Own("\n"),
+        ],
+    )?;
+    add_second(pieces, text, death.second)?;
+    add_function(pieces, text, death.is_next, death.function)?;
+    add_bytes(pieces, "  signature  ", signature)
+}
+
+fn shared_text(is_shared: bool) -> &'static str
+    ensures { result.now ≡ shared_words is_shared }
+{
+    if is_shared {
+        "; the console has the same line"
+    } else {
+        "; the console lacks this line: it can be of another boot"
+    }
+}
+
+/// Whether the console has the telling line too.
+fn console_text(told: &Telling<'_>, console: Option<&RecordReport>) -> &'static str
+    ensures { result.now ≡ console_words (as_told told.now) (option_copied console.entry) }
+{
+    let Some(console) = console else {
+        return "";
+    };
+    if is_console(told.teller) {
+        return "";
+    }
+    shared_text(has_telling_line(console, told))
+}
+
+fn add_death<'a>(
+    pieces: &mut Vec<Piece<'a>>,
+    title: &'a [u8],
+    signature: &'a [u8],
+    told: &Telling<'a>,
+    console: Option<&'a RecordReport>,
+) -> Result<(), AllocError>
+    ensures { OnOk result (parts pieces.new.items ≡ parts pieces.old.items
+        ++ death_parts title.entry.now signature.entry.now (as_told told.now) (option_copied console.entry)) }
+{
+    let teller: &'a RecordReport = told.teller;
+    let text = teller.readable();
+    add_reason(pieces, signature, text, told.death)?;
+    add_when(pieces, teller.time)?;
+    add_up(pieces, uptime(text, told.death.telling))?;
+    add_named(pieces, text, told.death)?;
+    add_machine(pieces, machine_told(told, console))?;
+    add_source(pieces, teller, console_text(told, console), title)
+}
+
+fn dump_text(reason: DumpReason) -> &'static str
+    ensures { result.now ≡ dump_words reason }
+{
+    match reason {
+        DumpReason::Panic => "died: of a panic; its line is not in the dump\n",
+        DumpReason::Oops => "died: of an oops; its line is not in the dump\n",
+        DumpReason::Emergency => "no panic: the kernel was told to restart in an emergency\n",
+        DumpReason::Restart => "no panic: the kernel was told to restart\n",
+        DumpReason::Halt => "no panic: the kernel was told to halt\n",
+        DumpReason::PowerOff => "no panic: the kernel was told to power off\n",
+        DumpReason::ShutDown => "no panic: the kernel was told to shut down\n",
+    }
+}
+
+fn ending_text(ending: Ending) -> &'static str
+    ensures { result.now ≡ ending_words ending }
+{
+    match ending {
+        Ending::Restarted => "no death: an orderly restart\n",
+        Ending::SwitchedOff => "no death: switched off or halted in order\n",
+        Ending::Reset => "no death: restarted by sysrq\n",
+        Ending::BrokenOff => {
+            "no death: the log breaks off; the machine hung, lost power or was reset\n"
+        }
+    }
+}
+
+/// Why the kernel made the dump, or how the log ends.
+pub fn no_death_text(reason: Option<DumpReason>, ending: Ending) -> &'static str
+    ensures { result.now ≡ no_death_words reason ending }
+{
+    match reason {
+        Some(reason) => dump_text(reason),
+        None => ending_text(ending),
+    }
+}
+
+fn add_ending<'a>(
+    pieces: &mut Vec<Piece<'a>>,
+    words: &'static str,
+    text: &'a [u8],
+    line: Line,
+) -> Result<(), AllocError>
+    ensures { OnOk result (parts pieces.new.items ≡ parts pieces.old.items
+        ++ ended_parts words.entry.now text.entry.now line) }
+{
+    add(
+        pieces,
+        &[
+            Piece::Own(words),
+            Piece::Own("  last line  "),
+            Piece::Foreign(part(text, line.text, line.end)),
+            Piece::Own("\n"),
         ],
     )
 }
 
-fn add_when(pieces: &mut Vec<Piece<'_>>, time: Option<Time>) -> Result<(), AllocError>
-    ensures { OnOk result (Adds (IsWhen time) (parts pieces.old.items) (parts pieces.new.items)) }
+fn add_end<'a>(
+    pieces: &mut Vec<Piece<'a>>,
+    title: &'a [u8],
+    end: &End<'a>,
+) -> Result<(), AllocError>
+    ensures { OnOk result (parts pieces.new.items
+        ≡ parts pieces.old.items ++ end_parts title.entry.now (as_ended end.now)) }
 {
-    match time {
-        Some(time) => {
-            add(pieces, &[Piece::Own(", ")])?;
-            add_time(pieces, time)
-        }
-        None => Ok(()),
+    let teller: &'a RecordReport = end.teller;
+    let text = teller.readable();
+    let words = no_death_text(dump_reason(text), end.ended.ending);
+    add_ending(pieces, words, text, end.ended.line)?;
+    add_when(pieces, teller.time)?;
+    add_up(pieces, uptime(text, end.ended.line))?;
+    add_source(pieces, teller, "", title)
+}
+
+fn add_unknown<'a>(pieces: &mut Vec<Piece<'a>>, title: &'a [u8]) -> Result<(), AllocError>
+    ensures { OnOk result (parts pieces.new.items ≡ parts pieces.old.items ++ unknown_parts title.entry.now) }
+{
+    add(
+        pieces,
+        &[
+            Piece::Own("no death: no record tells of the kernel\n  image      "),
+            Piece::Foreign(title),
+            Piece::Own("\n"),
+        ],
+    )
+}
+
+/// Adds how the log ends, if no record tells why the machine died.
+fn add_no_death<'a>(
+    pieces: &mut Vec<Piece<'a>>,
+    title: &'a [u8],
+    end: Option<End<'a>>,
+) -> Result<(), AllocError>
+    ensures { OnOk result (parts pieces.new.items
+        ≡ parts pieces.old.items ++ unless_ended title.entry.now (end_in end.entry)) }
+{
+    match end {
+        Some(end) => add_end(pieces, title, &end),
+        None => add_unknown(pieces, title),
     }
 }
 
-fn add_death<'a>(pieces: &mut Vec<Piece<'a>>, told: &Telling<'a>) -> Result<(), AllocError>
-    ensures { OnOk result (Adds (IsDeath (as_told told.now)) (parts pieces.old.items) (parts pieces.new.items)) }
-{
-    let teller: &'a RecordReport = told.teller;
-    let text = teller.readable();
-    add_said(pieces, text, told.death)?;
-    add_name(pieces, teller.name)?;
-    add_when(pieces, teller.time)?;
-    add(pieces, &[Piece::Own(")\n")])?;
-    add_context(pieces, text, told.death)
-}
-
-/// Adds why the machine died, as one of the records tells it, or that none tells.
-pub fn add_died<'a>(
+/// Adds why the machine died, or how the log ends, with what is known of it.
+pub fn add_first<'a>(
     pieces: &mut Vec<Piece<'a>>,
+    title: &'a [u8],
+    signature: &'a [u8],
     records: &'a [RecordReport],
+    told: Option<Telling<'a>>,
 ) -> Result<(), AllocError>
-    ensures { OnOk result (Adds (IsDied (death_told records.entry.now)) (parts pieces.old.items)
-        (parts pieces.new.items)) }
+    ensures { OnOk result (parts pieces.new.items ≡ parts pieces.old.items
+        ++ first_parts title.entry.now signature.entry.now records.entry.now (told_in told.entry)) }
 {
-    match death_told(records) {
-        Some(told) => add_death(pieces, &told),
-        None => add(pieces, &[Piece::Own("died: no record tells why\n")]),
+    match told {
+        Some(told) => add_death(pieces, title, signature, &told, console(records)),
+        None => add_no_death(pieces, title, end_told(records)),
     }
 }

@@ -1,21 +1,18 @@
 // The last lines of a record.
-ghost use Rattle.std.specs.Prelude.{◌≡◌, ◌≤◌, ◌++◌, [], drop, length, OnOk};
+ghost use Rattle.std.specs.Prelude.{◌≡◌, ◌≤◌, ◌++◌, drop, length, OnOk};
 ghost use Rattle.std.specs.Option.{option_copied};
 ghost use Rattle.report_text.specs.Pieces.{parts};
-ghost use Rattle.report_text.specs.Tails.{last_lines, rows_from, row_parts, rows_parts, columns, break_parts};
-ghost use Rattle.report_text.specs.Tails.{tail_parts};
+ghost use Rattle.report_text.specs.Tails.{last_lines, break_parts, tail_parts};
 ghost use Rattle.report_text.specs.Whole.{tails};
 
 use crate::pieces::{Piece, add};
-use crate::visible::is_plain;
+use crate::rows::add_rows;
 use outside::Bytes;
-use region_report::{Packing, RecordReport, android_log, console, newest_dump};
+use region_report::{Packing, RecordReport, android_log, console};
 use std::alloc::AllocError;
 
 /// How many lines of the console and of Android's log are shown.
 const LINES: usize = 10;
-
-const COLUMNS: usize = 76;
 
 /// Where at most so many last lines begin.
 fn tail_start(bytes: &[u8], most: usize) -> usize
@@ -37,54 +34,6 @@ fn tail_start(bytes: &[u8], most: usize) -> usize
     0
 }
 
-/// The columns that a byte takes at most.
-fn columns(b: u8) -> usize
-    ensures columns { result ≡ columns b }
-    ensures few { result ≤ 8 }
-{
-    match b {
-        b'\t' => 8,
-        _ if is_plain(b) => 1,
-        _ => 4,
-    }
-}
-
-fn add_row<'a>(pieces: &mut Vec<Piece<'a>>, row: &'a [u8]) -> Result<(), AllocError>
-    ensures { OnOk result (parts pieces.new.items ≡ parts pieces.old.items ++ row_parts row.entry.now) }
-{
-    add(
-        pieces,
-        &[Piece::Own("  "), Piece::Foreign(row), Piece::Own("\n")],
-    )
-}
-
-/// Adds the lines of these bytes in rows that fit a terminal.
-fn add_rows<'a>(pieces: &mut Vec<Piece<'a>>, bytes: &'a [u8]) -> Result<(), AllocError>
-    ensures { OnOk result (parts pieces.new.items
-        ≡ parts pieces.old.items ++ rows_parts (rows_from [] 0 bytes.entry.now)) }
-{
-    let mut from = 0;
-    let mut taken = 0;
-    for (i, b) in bytes.iter().enumerate() {
-        let next = columns(*b);
-        if *b == b'\n' {
-            add_row(pieces, &bytes[from..i])?;
-            from = i + 1;
-            taken = 0;
-        } else if taken + next > COLUMNS {
-            add_row(pieces, &bytes[from..i])?;
-            from = i;
-            taken = next;
-        } else {
-            taken += next;
-        }
-    }
-    if from < bytes.len() {
-        add_row(pieces, &bytes[from..])?;
-    }
-    Ok(())
-}
-
 /// Adds why a packed text goes no further, if it doesn't.
 fn add_break(pieces: &mut Vec<Piece<'_>>, packing: &Packing<Bytes>) -> Result<(), AllocError>
     ensures { OnOk result (parts pieces.new.items ≡ parts pieces.old.items ++ break_parts packing.now) }
@@ -104,7 +53,7 @@ fn add_break(pieces: &mut Vec<Piece<'_>>, packing: &Packing<Bytes>) -> Result<()
 
 /// Adds a heading and at most so many last lines of a record, if there is one. A packed text that breaks off ends with
 /// the reason.
-fn add_tail<'a>(
+pub fn add_tail<'a>(
     pieces: &mut Vec<Piece<'a>>,
     heading: &'static str,
     most: usize,
@@ -117,27 +66,20 @@ fn add_tail<'a>(
         Some(entry) => {
             add(pieces, &[Piece::Own(heading)])?;
             let bytes = entry.said();
-            add_rows(pieces, &bytes[tail_start(bytes, most)..])?;
+            add_rows(pieces, "  ", &bytes[tail_start(bytes, most)..])?;
             add_break(pieces, &entry.packing)
         }
         None => Ok(()),
     }
 }
 
-/// Adds at most so many last lines of the newest dump, and the last lines of the console and of Android's log.
+/// Adds the last lines of the console and of Android's log.
 pub fn add_tails<'a>(
     pieces: &mut Vec<Piece<'a>>,
-    most: usize,
     records: &'a [RecordReport],
 ) -> Result<(), AllocError>
-    ensures { OnOk result (parts pieces.new.items ≡ parts pieces.old.items ++ tails most records.entry.now) }
+    ensures { OnOk result (parts pieces.new.items ≡ parts pieces.old.items ++ tails records.entry.now) }
 {
-    add_tail(
-        pieces,
-        "\nlast lines of the newest dump\n",
-        most,
-        newest_dump(records),
-    )?;
     add_tail(
         pieces,
         "\nlast lines of the console\n",

@@ -1,58 +1,80 @@
 // The pieces of a text.
 ghost use Rattle.std.specs.Prelude.{◌≡◌, ◌++◌, true, IfOk, OnOk};
 ghost use Rattle.std.specs.List.{list_all};
+ghost use Rattle.report_spec.specs.Moments.{moment_text};
 ghost use Rattle.report_spec.specs.Visible.{is_visible, visible};
+ghost use Rattle.zone_spec.specs.Names.{name_text as text_of_name};
 ghost use Rattle.report_text.specs.Pieces.{filled, piece_text, parts, parts_text};
 
 use crate::visible::push_visible;
+use arrayvec::ArrayString;
 use itoa::Buffer;
+use pstore_records::name_text;
+use region_report::push_moment;
 use std::alloc::{AllocError, Global};
+use zone_spec::{Name, Time};
 
 /// A piece of a text. The text's own words live as long as the program: they cannot be made of an image's bytes.
 #[derive(Clone, Copy)]
 pub enum Piece<'a> {
     Own(&'static str),
-    /// A number of the report, after blanks that fill so many columns.
+    /// A number, after blanks that fill so many columns.
     Number(usize, u64),
-    /// A number of a date, after zeros that fill so many columns.
-    Date(usize, u64),
     Foreign(&'a [u8]),
+    /// The date and time of day.
+    Moment(Time),
+    /// The name of a record's file.
+    Named(Name),
 }
 
 const BLANKS: &str = "                    ";
 
-const ZEROS: &str = "00000000000000000000";
-
-/// Appends a number after a part of the filling.
-fn push_filled(
-    out: &mut Vec<u8>,
-    filling: &'static str,
-    columns: usize,
-    n: u64,
-) -> Result<(), AllocError>
+/// Appends a number after blanks.
+fn push_filled(out: &mut Vec<u8>, columns: usize, n: u64) -> Result<(), AllocError>
     requires { list_all is_visible out.old.items ≡ true }
-    ensures bytes { OnOk result (out.new.items ≡ out.old.items ++ visible (filled filling.entry.now columns n)) }
+    ensures bytes { OnOk result (out.new.items ≡ out.old.items ++ visible (filled columns n)) }
     ensures visible { OnOk result (list_all is_visible out.new.items ≡ true) }
 {
     let mut digits = Buffer::new();
     let digits = digits.format(n).as_bytes();
-    let filling = filling.as_bytes();
-    let wanted = columns.saturating_sub(digits.len()).min(filling.len());
-    push_visible(out, &filling[..wanted])?;
+    let blanks = BLANKS.as_bytes();
+    let wanted = columns.saturating_sub(digits.len()).min(blanks.len());
+    push_visible(out, &blanks[..wanted])?;
     push_visible(out, digits)?;
     Ok(())
 }
 
-fn push_piece(out: &mut Vec<u8>, piece: Piece<'_>) -> Result<(), AllocError>
+fn push_time(alloc: Global, out: &mut Vec<u8>, time: Time) -> Result<(), AllocError>
+    requires { list_all is_visible out.old.items ≡ true }
+    ensures bytes { OnOk result (out.new.items ≡ out.old.items ++ visible (moment_text time)) }
+    ensures visible { OnOk result (list_all is_visible out.new.items ≡ true) }
+{
+    let mut text = Vec::new(alloc);
+    push_moment(&mut text, time)?;
+    push_visible(out, text.as_slice())
+}
+
+fn push_name(out: &mut Vec<u8>, name: Name) -> Result<(), AllocError>
+    requires { list_all is_visible out.old.items ≡ true }
+    ensures bytes { OnOk result (out.new.items ≡ out.old.items ++ visible (text_of_name name)) }
+    ensures visible { OnOk result (list_all is_visible out.new.items ≡ true) }
+{
+    let mut text = ArrayString::new();
+    name_text(name, &mut text);
+    push_visible(out, text.as_bytes())
+}
+
+fn push_piece(alloc: Global, out: &mut Vec<u8>, piece: Piece<'_>) -> Result<(), AllocError>
     requires { list_all is_visible out.old.items ≡ true }
     ensures bytes { OnOk result (out.new.items ≡ out.old.items ++ piece_text piece.entry) }
     ensures visible { OnOk result (list_all is_visible out.new.items ≡ true) }
 {
     match piece {
         Piece::Own(text) => push_visible(out, text.as_bytes()),
-        Piece::Number(columns, n) => push_filled(out, BLANKS, columns, n),
-        Piece::Date(columns, n) => push_filled(out, ZEROS, columns, n),
+        Piece::Number(columns, n) => push_filled(out, columns, n),
         Piece::Foreign(bytes) => push_visible(out, bytes),
+        Piece::Moment(time) => push_time(alloc, out, time),
+        Piece::Named(name) => push_name(out, name),
     }
 }
 
@@ -63,7 +85,7 @@ pub fn render(alloc: Global, pieces: &[Piece<'_>]) -> Result<Vec<u8>, AllocError
 {
     let mut out = Vec::new(alloc);
     for piece in pieces {
-        push_piece(&mut out, *piece)?;
+        push_piece(alloc, &mut out, *piece)?;
     }
     Ok(out)
 }

@@ -11,7 +11,7 @@ use std::alloc::AllocError;
 use zone_spec::{Kind, State, Zone};
 
 const HEAD: &str =
-    "zone          state        place     size      start       used corrected   bad\n";
+    "\n\nzone          state        place     size      start       used corrected   bad\n";
 
 fn kind_text(kind: Kind) -> &'static str
     ensures { result.now ≡ kind_words kind }
@@ -82,13 +82,28 @@ fn add_zone(
     add(pieces, &[Piece::Own("\n")])
 }
 
-/// Adds a row for each zone: its name, state, place and size, the words of its header, and its counts.
-pub fn add_zones(pieces: &mut Vec<Piece<'_>>, zones: &[Zone], logs: &Logs) -> Result<(), AllocError>
+/// Adds how many zones and records there are, and a row for each zone: its name, state, place and size, the words of
+/// its header, and its counts.
+pub fn add_zones(
+    pieces: &mut Vec<Piece<'_>>,
+    zones: &[Zone],
+    logs: &Logs,
+    records: usize,
+) -> Result<(), AllocError>
     requires zones { zones.now ≡ logs.now.zones }
     requires readings { length logs.now.readings ≡ length zones.now }
-    ensures { OnOk result (parts pieces.new.items ≡ parts pieces.old.items ++ zone_table logs.now) }
+    ensures { OnOk result (parts pieces.new.items ≡ parts pieces.old.items ++ zone_table logs.now records) }
 {
-    add(pieces, &[Piece::Own(HEAD)])?;
+    add(
+        pieces,
+        &[
+            Piece::Own("\nzones "),
+            Piece::Number(1, zones.len() as u64),
+            Piece::Own(", records "),
+            Piece::Number(1, records as u64),
+            Piece::Own(HEAD),
+        ],
+    )?;
     for i in 0..logs.len() {
         add_zone(pieces, &zones[i as usize], logs.reading(i))?;
     }

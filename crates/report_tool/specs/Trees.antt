@@ -4,6 +4,7 @@ use Rattle.std.specs.Prelude.{Option, Some, None, Result, Ok, Err}
 use Rattle.std.specs.Str.{bytes_eq}
 use Rattle.std.specs.declared.string.String.{String}
 use Rattle.std.specs.declared.alloc.Global.{Global}
+use Rattle.zone_spec.specs.declared.params.Order.TheVariants.{FtracePmsg}
 use Rattle.zone_spec.specs.declared.params.Params.{Params}
 use Rattle.zone_spec.specs.declared.params.LayoutFault.{LayoutFault}
 use Rattle.zone_spec.specs.Layout.{layout_of}
@@ -48,6 +49,7 @@ params_said n = record {
   ecc_console = n.ecc_size;
   ecc_ftrace = n.ecc_size;
   ecc_pmsg = n.ecc_size;
+  order = FtracePmsg;
 }
 
 -- whether there is an ftrace zone for each processor (RAMOOPS_FLAG_FTRACE_PER_CPU), whose number no tree tells

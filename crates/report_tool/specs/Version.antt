@@ -1,7 +1,11 @@
--- The tag that a kernel gives its ftrace zones: its version (fs/pstore/ram.c, ramoops_probe; LINUX_VERSION_CODE)
-use Rattle.std.specs.Prelude.{ℕ, ◌+◌, ◌*◌, min, ◌==◌, ◌&&◌, nat_lt, if◌then◌else◌, List, codes, Option, Some, None}
+-- What a kernel's version tells: the tag of its ftrace zones, which is the version, and the order of its zones
+-- (fs/pstore/ram.c, ramoops_probe; LINUX_VERSION_CODE)
+use Rattle.std.specs.Prelude.{ℕ, ◌+◌, ◌*◌, min, ◌==◌, ◌&&◌, nat_lt, nat_le, if◌then◌else◌, List, codes, Option, Some, None}
 use Rattle.std.specs.List.{list_any, before_first, after_first}
+use Rattle.std.specs.Option.{option_and_then}
 use Rattle.grammar_spec.specs.Numbers.{number_of}
+use Rattle.zone_spec.specs.declared.params.Order.{Order}
+use Rattle.zone_spec.specs.declared.params.Order.TheVariants.{FtracePmsg, PmsgFtrace}
 
 -- a patch level above 255 counts as 255
 abbrev pub version_code : ℕ → ℕ → ℕ → Option ℕ
@@ -33,3 +37,13 @@ release_of version = before_first (λ c. c == 43) (before_first (λ c. c == 45) 
 -- X.Y or X.Y.Z
 unfoldable pub tag_of : List ℕ → Option ℕ
 tag_of version = release_code (split_at 46 (release_of version))
+
+-- up to 6.1 ftrace lies before pmsg, and from 6.12 on behind it; the versions between were not looked at
+abbrev pub order_of_code : ℕ → Option Order
+order_of_code code =
+    if nat_lt code 0x60200 then Some FtracePmsg
+    else if nat_le 0x60c00 code then Some PmsgFtrace
+    else None
+
+abbrev pub order_of : List ℕ → Option Order
+order_of version = option_and_then order_of_code (tag_of version)

@@ -1,5 +1,5 @@
 // The layout of an image, looked for where no word gives it.
-ghost use Rattle.std.specs.Prelude.{◌≡◌, ◌≤◌, IfOk, IfErr, IfSome, MatchResult, take};
+ghost use Rattle.std.specs.Prelude.{◌≡◌, ◌≤◌, IfOk, IfErr, IfSome, MatchResult, take, codes, option_map};
 ghost use Rattle.zone_spec.specs.Layout.{layout_of};
 ghost use Rattle.zone_spec.specs.Numbers.{most_memory};
 ghost use Rattle.ramoops_layout.specs.Layouts.{IsCause};
@@ -9,7 +9,7 @@ ghost use Rattle.command_spec.specs.declared.Stop.TheVariants.{ImageFault};
 ghost use Rattle.script_spec.specs.Playing.{KeptUnless};
 ghost use Rattle.image_file.specs.Loading.{FrontStop};
 ghost use Rattle.grammar_spec.specs.Words.{texts};
-ghost use Rattle.grammar_spec.specs.ZoneWords.{given as given_by};
+ghost use Rattle.grammar_spec.specs.ZoneWords.{given as given_by, order_at as order_of};
 ghost use Rattle.report_tool.specs.Finding.{known_by};
 ghost use Rattle.report_tool.specs.Plans.{IsLaid};
 
@@ -17,7 +17,7 @@ use crate::{Plan, Stop};
 use image_file::load_front;
 use layout_search::{Candidate, Found, Known, params, search};
 use outside::Load;
-use ramoops_layout::{LayoutError, given, parity_given};
+use ramoops_layout::{LayoutError, Order, given, order_at, parity_given};
 use std::alloc::Global;
 
 /// A layout has at most so many bytes.
@@ -28,6 +28,15 @@ fn size(words: &[String], key: &str) -> Option<u64>
 {
     match given(words, key) {
         Some(number) => Some(u64::from(number)),
+        None => None,
+    }
+}
+
+fn order(words: &[String]) -> Option<Order>
+    ensures { result ≡ option_map order_of (given_by (texts words.now) (codes "order")) }
+{
+    match given(words, "order") {
+        Some(place) => Some(order_at(place)),
         None => None,
     }
 }
@@ -45,6 +54,7 @@ pub fn known(words: &[String]) -> Known
         parity: parity_given(words, "ecc"),
         cpus: size(words, "cpus"),
         tag: given(words, "ftrace_sig"),
+        order: order(words),
     }
 }
 

@@ -20,4 +20,4 @@ pub use plan::{Plan, PlanFault};
 pub use saving::{Folder, save};
 pub use showing::Format;
 pub use tree::TreeFault;
-pub use version::{add_tag, ftrace_tag};
+pub use version::{add_order, add_tag, ftrace_tag, zone_order};

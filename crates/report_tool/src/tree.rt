@@ -14,7 +14,7 @@ use dtb::{DtbError, Fault, Node, Numbers, ramoops_nodes};
 use grammar_spec::ParamFault;
 use ramoops_layout::{LayoutError, given, read_words_over};
 use std::alloc::Global;
-use zone_spec::{LayoutFault, Params};
+use zone_spec::{LayoutFault, Order, Params};
 
 /// Why a device tree gives no plan.
 #[derive(Clone, Copy, Debug, PartialEq, Eq)]
@@ -86,6 +86,7 @@ fn params_said(n: &Numbers) -> Params
         ecc_console: ecc,
         ecc_ftrace: ecc,
         ecc_pmsg: ecc,
+        order: Order::FtracePmsg,
     }
 }
 
@@ -139,7 +140,7 @@ fn params_in(
 impl Plan {
     /// The plan of a board's flattened device tree (`fs/pstore/ram.c`, `ramoops_parse_dt`): of its only ramoops node,
     /// or of the node of this path, as `/reserved-memory/ramoops@8f000000`. Words (`key=value`) count more than the
-    /// node; what neither gives, the number of processors and the tag of ftrace zones, is 1 and 0.
+    /// node; what neither gives, the number of processors and the tag of ftrace zones, is 1 and 0, and the order that of Linux 6.1.
     pub fn of_tree(
         alloc: Global,
         tree: &[u8],

@@ -1,12 +1,14 @@
-// The ftrace tag of a kernel's version.
+// What a kernel's version tells: the tag of its ftrace zones, and the order of its zones.
 ghost use Rattle.std.specs.Prelude.{◌≡◌, ◌==◌, [], ◌∷◌, ◌++◌, codes, decimal, OnOk};
 ghost use Rattle.std.specs.List.{before_first};
 ghost use Rattle.std.specs.Option.{option_map};
 ghost use Rattle.grammar_spec.specs.Numbers.{number_of};
 ghost use Rattle.grammar_spec.specs.Words.{texts};
+ghost use Rattle.zone_spec.specs.Orders.{order_text};
 ghost use Rattle.report_tool.specs.Version.{version_code, code_of, split_at, release_of, tag_of};
+ghost use Rattle.report_tool.specs.Version.{order_of_code, order_of};
 
-use ramoops_layout::number;
+use ramoops_layout::{Order, number};
 use std::alloc::{AllocError, Global};
 
 // `LINUX_VERSION_CODE`: a patch level above 255 counts as 255.
@@ -64,6 +66,35 @@ pub fn ftrace_tag(version: &str) -> Option<u32>
         Some((minor, patch)) => code_of(major, minor, patch),
         None => code_of(major, rest, "0"),
     }
+}
+
+fn order_of_code(code: u32) -> Option<Order>
+    ensures { result ≡ order_of_code code }
+{
+    if code < 0x60200 {
+        Some(Order::FtracePmsg)
+    } else if code >= 0x60c00 {
+        Some(Order::PmsgFtrace)
+    } else {
+        None
+    }
+}
+
+/// The order in which a kernel of this version lays out its zones (`fs/pstore/ram.c`, `ramoops_probe`), or `None` where
+/// that is not known: the text is no version, or a version above 6.1 and below 6.12.
+pub fn zone_order(version: &str) -> Option<Order>
+    ensures { result ≡ order_of version.now }
+{
+    order_of_code(ftrace_tag(version)?)
+}
+
+/// Adds the word that gives this order.
+pub fn add_order(alloc: Global, words: &mut Vec<String>, order: Order) -> Result<(), AllocError>
+    ensures { OnOk result (texts words.new.items ≡ texts words.old.items ++ (codes "order=" ++ order_text order) ∷ []) }
+{
+    let text = order.text();
+    words.push(format!(in alloc; "order={text}")?)?;
+    Ok(())
 }
 
 /// Adds the word that gives the ftrace zones this tag.

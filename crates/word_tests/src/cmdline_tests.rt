@@ -1,5 +1,6 @@
 // Worked command lines and versions.
 use kernel_line::*;
+use ramoops_layout::Order;
 use report_tool::*;
 use std::alloc::Global;
 use std::test::Fail;
@@ -207,4 +208,26 @@ fn tags_of_versions(rt: HostRuntime) {
     ] {
         assert_eq!(rt; ftrace_tag(version), tag, "of {version}");
     }
+}
+
+// The order of the zones by `ramoops_probe` of 6.1 and of 6.12; the versions between were not looked at.
+#[test]
+fn orders_of_versions(rt: HostRuntime) -> Result<(), Fail> {
+    for (version, order) in [
+        ("5.10.250", Some(Order::FtracePmsg)),
+        ("6.1.0-25-amd64", Some(Order::FtracePmsg)),
+        ("6.1.255", Some(Order::FtracePmsg)),
+        ("6.2", None),
+        ("6.11.11", None),
+        ("6.12.117", Some(Order::PmsgFtrace)),
+        ("6.12-rc1+", Some(Order::PmsgFtrace)),
+        ("7.0", Some(Order::PmsgFtrace)),
+        ("6", None),
+    ] {
+        assert_eq!(rt; zone_order(version), order, "of {version}");
+    }
+    let mut words = Vec::new(rt.alloc());
+    add_order(rt.alloc(), &mut words, Order::PmsgFtrace)?;
+    assert_eq!(rt; words[0].as_str(), "order=console,pmsg,ftrace");
+    Ok(())
 }

@@ -3,12 +3,16 @@ use std::alloc::{AllocError, Global};
 
 const PREFIXED: Keys = Keys {
     prefix: "ramoops.",
-    names: &["mem_size", "ecc", "cpus"],
+    names: &["mem_size", "ecc", "cpus", "side"],
+    choice: "side",
+    choices: &["left", "right"],
 };
 
 const PLAIN: Keys = Keys {
     prefix: "",
     names: &["total_size", "kmsg_size", "pmsg_size"],
+    choice: "",
+    choices: &[],
 };
 
 fn split_words(alloc: Global, line: &str) -> Result<Vec<String>, AllocError> {
@@ -84,6 +88,13 @@ const PREFIXED_FAULTS: &[(&str, Option<ParamFault>)] = &[
     ("ecc=1 cpus=two mem_size=", Some(ParamFault::NotANumber(1))),
     ("ecc=1=1", Some(ParamFault::NotANumber(0))),
     ("ecc=1 unknown=x ecc=2", Some(ParamFault::UnknownKey(1))),
+    ("side=left ecc=1", None),
+    ("ecc=1 ramoops.side=right", None),
+    ("ecc=1 side=1", Some(ParamFault::NotANumber(1))),
+    ("side=lef", Some(ParamFault::NotANumber(0))),
+    ("side=", Some(ParamFault::NotANumber(0))),
+    ("side=left side=right", Some(ParamFault::Twice(1))),
+    ("ecc=left", Some(ParamFault::NotANumber(0))),
 ];
 
 #[test]
@@ -127,6 +138,8 @@ fn words_give_numbers(rt: HostRuntime) {
         assert!(rt; PREFIXED.given(&words, key) == number, "of {key}");
     }
     assert!(rt; PLAIN.given(&words, "ecc") == None);
+    let words = split_words(rt.alloc(), "ecc=2 side=right").expect(&rt, "there is memory");
+    assert!(rt; PREFIXED.given(&words, "side") == Some(1));
 }
 
 const SHOWN: &[(ParamFault, u32, &str)] = &[

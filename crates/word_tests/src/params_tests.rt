@@ -90,6 +90,34 @@ fn one_mebibyte_is_laid_out(rt: HostRuntime) {
     }
 }
 
+// The region of 64 KiB of a kernel 6.12, and the same of 6.1.
+#[test]
+fn ftrace_and_pmsg_lie_in_the_order_given(rt: HostRuntime) {
+    let sizes = "mem_size=65536 record_size=8192 ecc=1";
+    for (order, ftrace, pmsg) in [
+        ("order=console,pmsg,ftrace", 61440, 57344),
+        ("order=console,ftrace,pmsg", 57344, 61440),
+        ("ecc_dump=16", 57344, 61440),
+    ] {
+        let line = format!(in rt.alloc(); "{sizes} {order}").expect(&rt, "there is memory");
+        let l = laid(rt.alloc(), line.as_str())
+            .expect(&rt, "there is memory")
+            .expect(&rt, "there is a layout");
+        assert!(rt;
+            shape(&l, Kind::Console, 0).map(|s| s.0) == Some(53248),
+            "by {order}"
+        );
+        assert!(rt;
+            shape(&l, Kind::Ftrace, 0).map(|s| s.0) == Some(ftrace),
+            "by {order}"
+        );
+        assert!(rt;
+            shape(&l, Kind::Pmsg, 0).map(|s| s.0) == Some(pmsg),
+            "by {order}"
+        );
+    }
+}
+
 #[test]
 fn odd_sizes_are_laid_out(rt: HostRuntime) {
     let l = laid(

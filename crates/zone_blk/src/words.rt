@@ -10,6 +10,8 @@ use ramoops_layout::Keys;
 const KEYS: Keys = Keys {
     prefix: "",
     names: &["total_size", "kmsg_size", "console_size", "pmsg_size"],
+    choice: "",
+    choices: &[],
 };
 
 const ZONE: u32 = 65536;

@@ -3,6 +3,7 @@ use Rattle.std.specs.Prelude.{◌≡◌, ℕ, ◌+◌, ◌*◌, [], ◌∷◌, �
 use Rattle.std.specs.List.{range_with_len}
 use Rattle.zone_spec.specs.declared.Zone.{Zone}
 use Rattle.zone_spec.specs.declared.ZoneName.{ZoneName}
+use Rattle.zone_spec.specs.declared.params.Order.TheVariants.{FtracePmsg, PmsgFtrace}
 use Rattle.zone_spec.specs.declared.params.Params.{Params}
 use Rattle.zone_spec.specs.declared.params.LayoutFault.TheVariants.{NoMemory, NoZone, TooLarge, EccTooLarge, NoRoom}
 use Rattle.zone_spec.specs.declared.params.LayoutFault.TheVariants.{ZoneTooSmall, EccInvalid, CpusBad, BlockBad}
@@ -26,6 +27,7 @@ default = record {
   ecc_console = 0;
   ecc_ftrace = 0;
   ecc_pmsg = 0;
+  order = FtracePmsg;
 }
 
 -- so many parity bytes for every kind
@@ -118,6 +120,16 @@ abbrev pub LayoutWithTag : Type 0
 LayoutWithTag =
     layout_of (record default { mem = 8192; dump = 0; pmsg = 0; ftrace_sig = 0x43474244 })
     ≡ Ok (zone console 0 4096 4084 32 0 128 ∷ record (zone (ftrace 0) 4096 4096 4084 32 0 128) { sig = 0 } ∷ [])
+
+-- pmsg lies before ftrace as Linux 6.12 lays them out, and else behind it
+abbrev pub LayoutInEitherOrder : Type 0
+LayoutInEitherOrder =
+    (layout_of (record default { mem = 16384; dump = 0; console = 8192; order = PmsgFtrace })
+    ≡ Ok (zone console 0 8192 8180 64 0 128 ∷ zone pmsg 8192 4096 4084 32 0 128
+    ∷ zone (ftrace 0) 12288 4096 4084 32 0 128 ∷ []))
+    × (layout_of (record default { mem = 16384; dump = 0; console = 8192; order = FtracePmsg })
+    ≡ Ok (zone console 0 8192 8180 64 0 128 ∷ zone (ftrace 0) 8192 4096 4084 32 0 128
+    ∷ zone pmsg 12288 4096 4084 32 0 128 ∷ []))
 
 abbrev pub WorkedFaults : Type 0
 WorkedFaults =

@@ -2,7 +2,7 @@
 
 ghost use Rattle.zone_examples.specs.Layouts.{LayoutsOfTheRows, LayoutWithParity, LayoutOfMebibyte, LayoutOfOddSizes};
 ghost use Rattle.zone_examples.specs.Layouts.{LayoutRoundsSizes, LayoutWithOneByte, LayoutOfSmallBlocks, LayoutWithTag};
-ghost use Rattle.zone_examples.specs.Layouts.{WorkedFaults, FaultsInOrder, FaultsDecided};
+ghost use Rattle.zone_examples.specs.Layouts.{LayoutInEitherOrder, WorkedFaults, FaultsInOrder, FaultsDecided};
 
 /// The layouts that the other rows begin with.
 pub fn layouts_of_the_rows()
@@ -42,6 +42,11 @@ pub fn layout_of_small_blocks()
 /// The tag of ftrace zones.
 pub fn layout_with_tag()
     ensures { LayoutWithTag }
+{}
+
+/// Ftrace before pmsg, and pmsg before ftrace.
+pub fn layout_in_either_order()
+    ensures { LayoutInEitherOrder }
 {}
 
 /// Parameters without a layout.

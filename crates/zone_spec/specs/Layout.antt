@@ -5,6 +5,8 @@ use Rattle.std.specs.List.{list_any, list_all, range_with_len}
 use Rattle.zone_spec.specs.declared.Kind.{Kind}
 use Rattle.zone_spec.specs.declared.Kind.TheVariants.{Dump, Console, Ftrace, Pmsg}
 use Rattle.zone_spec.specs.declared.Zone.{Zone}
+use Rattle.zone_spec.specs.declared.params.Order.{Order}
+use Rattle.zone_spec.specs.declared.params.Order.TheVariants.{FtracePmsg, PmsgFtrace}
 use Rattle.zone_spec.specs.declared.params.Params.{Params}
 use Rattle.zone_spec.specs.declared.params.Row.{Row}
 use Rattle.zone_spec.specs.declared.params.LayoutFault.{LayoutFault}
@@ -32,21 +34,31 @@ dump_memory p = p.mem - rounded p.console - rounded p.ftrace - rounded p.pmsg
 abbrev pub dump_count : Params → ℕ
 dump_count p = if rounded p.dump == 0 then 0 else dump_memory p / rounded p.dump
 
+abbrev pub dump_row : Params → Row
+dump_row p = record { kind = Dump; count = dump_count p; size = even (dump_memory p / dump_count p) }
+
 -- a zone of this size, or none of size 0
 abbrev pub one_row : Kind → ℕ → Row
 one_row kind size = record { kind = kind; count = if size == 0 then 0 else 1; size = size }
 
+abbrev pub ftrace_row : Params → Row
+ftrace_row p = record {
+  kind = Ftrace;
+  count = if rounded p.ftrace == 0 then 0 else p.cpus;
+  size = even (rounded p.ftrace / p.cpus);
+}
+
+-- these two, in this order
+abbrev pub ordered : Order → Row → Row → List Row
+ordered FtracePmsg ftrace pmsg = ftrace ∷ pmsg ∷ []
+ordered PmsgFtrace ftrace pmsg = pmsg ∷ ftrace ∷ []
+
 -- the zones of each kind
 abbrev pub rows : Params → List Row
 rows p =
-    record { kind = Dump; count = dump_count p; size = even (dump_memory p / dump_count p) }
+    dump_row p
     ∷ one_row Console (rounded p.console)
-    ∷ record {
-      kind = Ftrace;
-      count = if rounded p.ftrace == 0 then 0 else p.cpus;
-      size = even (rounded p.ftrace / p.cpus);
-    }
-    ∷ one_row Pmsg (rounded p.pmsg) ∷ []
+    ∷ ordered p.order (ftrace_row p) (one_row Pmsg (rounded p.pmsg))
 
 -- the parity bytes of a kind
 abbrev pub ecc_of : Params → Kind → ℕ

@@ -23,6 +23,7 @@ pub mod Records
 pub mod Notices
 pub mod RecordsHeld
 pub mod Listing
+pub mod Orders
 pub mod Layout
 pub mod Layouts
 pub mod LayoutFaults

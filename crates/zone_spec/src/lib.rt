@@ -4,7 +4,7 @@
 
 mod params;
 
-pub use params::{LayoutFault, Params, Row};
+pub use params::{LayoutFault, Order, Params, Row};
 
 /// What a zone is for (`include/linux/pstore.h`: `dmesg`, `console`, `ftrace` and `pmsg`).
 #[derive(Clone, Copy, Debug, PartialEq, Eq)]

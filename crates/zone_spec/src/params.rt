@@ -1,16 +1,39 @@
 // The parameters of a layout, and the causes for which there is none.
 ghost use Rattle.std.specs.Prelude.{◌≡◌};
 ghost use Rattle.zone_spec.specs.LayoutFaults.{fault_number};
+ghost use Rattle.zone_spec.specs.Orders.{order_text};
 
 use crate::Kind;
 use thiserror::Error;
+
+/// In which order the ftrace zones and the pmsg zone lie behind the console.
+#[derive(Clone, Copy, Debug, PartialEq, Eq)]
+pub enum Order {
+    /// As Linux 6.1 lays them out (`fs/pstore/ram.c`, `ramoops_probe`).
+    FtracePmsg,
+    /// As Linux 6.12 does.
+    PmsgFtrace,
+}
+
+impl Order {
+    /// The order as a word gives it.
+    pub fn text(self) -> &'static str
+        ensures { result.now ≡ order_text self }
+    {
+        match self {
+            Order::FtracePmsg => "console,ftrace,pmsg",
+            Order::PmsgFtrace => "console,pmsg,ftrace",
+        }
+    }
+}
 
 /// The parameters of a layout (`fs/pstore/ram.c`, `struct ramoops_platform_data`), all sizes in bytes.
 ///
 /// `mem` is the image's size, `dump` the wanted one of a dump zone, `console`, `ftrace` and `pmsg` those of the other
 /// zones, `ftrace` for all ftrace zones together; zones are rounded down to powers of two, `mem` is not. The four
 /// values of a kind are its parity bytes, and `ecc` those of a kind without a value of its own. `cpus` is the number
-/// of ftrace zones, `ftrace_sig` their tag, and `block` the data bytes of one parity block.
+/// of ftrace zones, `ftrace_sig` their tag, and `block` the data bytes of one parity block. `order` says which of the
+/// ftrace and pmsg zones come first.
 #[derive(Clone, Copy, Debug, PartialEq, Eq)]
 pub struct Params {
     pub mem: u64,
@@ -26,6 +49,7 @@ pub struct Params {
     pub ecc_console: u64,
     pub ecc_ftrace: u64,
     pub ecc_pmsg: u64,
+    pub order: Order,
 }
 
 /// Zones of one kind and size, one after another: how many, and the bytes of each.

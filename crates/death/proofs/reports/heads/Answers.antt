@@ -1,7 +1,7 @@
 -- A line of the report counts if none of its kind was found; the line that ends it, or the end of the text, leaves what
 -- was found. For `heads`.
 use Rattle.std.proofs.Common.{sym, ap, ◌∙◌}
-use Rattle.death_spec.specs.declared.Mark.TheVariants.{Processor, Place, Link}
+use Rattle.death_spec.specs.declared.Mark.TheVariants.{Processor, Place, Link, Own}
 use Rattle.death_spec.specs.Marks.{is_mark}
 use Rattle.death_spec.specs.Telling.{is_of_oops}
 use Rattle.death_spec.specs.Lines.{lines_from, said, is_a}
@@ -19,6 +19,8 @@ lines-init c = (
   ap (λ t. first_where (is_a c.args.text.now Link) (in_report c.args.text.now t (lines_from c.args.text.now c.args.telling.next)))
       (sym (c.is_of_oops-is_open.ensures ∙ ap is_of_oops c.kind_by.ensures)),
   ap (λ t. first_where (λ line. is_entry (said c.args.text.now line)) (in_report c.args.text.now t (lines_from c.args.text.now c.args.telling.next)))
+      (sym (c.is_of_oops-is_open.ensures ∙ ap is_of_oops c.kind_by.ensures)),
+  ap (λ t. first_where (is_a c.args.text.now Own) (in_report c.args.text.now t (lines_from c.args.text.now c.args.telling.next)))
       (sym (c.is_of_oops-is_open.ensures ∙ ap is_of_oops c.kind_by.ensures)),
 )
 
@@ -40,6 +42,10 @@ lines-preserved c = (
       c.earlier-entry.result c.kind_by-mark.result c.is_entry-is_entry.result c.lines.invariant.3 c.in-Some.ensures.line
       c.kind_by-mark.ensures (sym c.ends_report.ensures ∙ c.if-ends_report.false)
       (c.is_entry-is_entry.ensures ∙ ap is_entry c.said-words.ensures.said) c.earlier-entry.ensures,
+  head_more c.args.text.now (is_a c.args.text.now Own) c.is_of_oops-is_open.result c.lines.at c.in-Some.line c.lines.own _
+      c.earlier-own.result c.kind_by-mark.result c.is_mark-is_own.result c.lines.invariant.4 c.in-Some.ensures.line
+      c.kind_by-mark.ensures (sym c.ends_report.ensures ∙ c.if-ends_report.false)
+      (c.is_mark-is_own.ensures ∙ ap (is_mark Own) c.kind_by-mark.ensures) c.earlier-own.ensures,
 )
 
 pub returns-then-ends_report-clause-processor : goal.returns-then-ends_report-clause-processor
@@ -84,4 +90,15 @@ returns-in_default-clause-link c =
 pub returns-in_default-clause-entry : goal.returns-in_default-clause-entry
 returns-in_default-clause-entry c =
     head_none c.args.text.now (λ line. is_entry (said c.args.text.now line)) c.is_of_oops-is_open.result c.lines.at c.lines.entry _ c.lines.invariant.3
+    c.in_default.ensures.none
+
+pub returns-then-ends_report-clause-own : goal.returns-then-ends_report-clause-own
+returns-then-ends_report-clause-own c =
+    head_ended c.args.text.now (is_a c.args.text.now Own) c.is_of_oops-is_open.result c.lines.at c.in-Some.line c.lines.own _
+    c.kind_by-mark.result c.lines.invariant.4 c.in-Some.ensures.line c.kind_by-mark.ensures
+    (sym c.ends_report.ensures ∙ c.if-ends_report.true)
+
+pub returns-in_default-clause-own : goal.returns-in_default-clause-own
+returns-in_default-clause-own c =
+    head_none c.args.text.now (is_a c.args.text.now Own) c.is_of_oops-is_open.result c.lines.at c.lines.own _ c.lines.invariant.4
     c.in_default.ensures.none

@@ -2,7 +2,7 @@
 use Rattle.std.proofs.Common.{◌≡◌, Bool, ◌-◌, ◌+◌, length, Option, List, ℕ}
 use Rattle.std.specs.Option.{option_or}
 use Rattle.death_spec.specs.declared.Line.{Line}
-use Rattle.death_spec.specs.declared.Mark.TheVariants.{Processor, Place, Link}
+use Rattle.death_spec.specs.declared.Mark.TheVariants.{Processor, Place, Link, Own}
 use Rattle.death_spec.specs.Lines.{lines_from, said, is_a}
 use Rattle.death_spec.specs.Reports.{first_where, report}
 use Rattle.death_spec.specs.Traces.{is_entry}
@@ -20,6 +20,7 @@ invariant-lines l =
     × Found l.text l.fn.telling l.is_open l.at (is_a l.text Place) l.place
     × Found l.text l.fn.telling l.is_open l.at (is_a l.text Link) l.link
     × Found l.text l.fn.telling l.is_open l.at (λ line. is_entry (said l.text line)) l.entry
+    × Found l.text l.fn.telling l.is_open l.at (is_a l.text Own) l.own
 
 abbrev pub decreases-lines : goal.decreases-lines
 decreases-lines l = length l.text + 1 - l.at

@@ -1,6 +1,6 @@
 -- The list of each word is its known value alone, or else all values of the family. For
 -- `make_lists`.
-use Rattle.std.proofs.Common.{◌∙◌, ◌∷◌, ap}
+use Rattle.std.proofs.Common.{◌∙◌, ◌∷◌, [], ℕ, Option, ap}
 use Rattle.std.specs.Prelude.{filter, nat_le}
 use Rattle.layout_spec.specs.Family.{known_or, powers}
 use Rattle.layout_search.proofs.lists.make_lists.Goals as goal
@@ -15,7 +15,9 @@ returns c = record {
   ftraces_are = c.in_ok-known_or-4.ensures
       ∙ ap (known_or c.args.known.now.ftrace) (c.deref-4.ensures.value ∙ c.in_ok-sizes.ensures);
   pmsgs_are = c.in_ok-known_or-5.ensures ∙ ap (known_or c.args.known.now.pmsg) (c.deref-5.ensures.value ∙ c.in_ok-sizes.ensures);
-  parities_are = c.in_ok-known_or-6.ensures
+  orders_are = c.in_ok-known_or-6.ensures ∙ ap (λ (o : Option ℕ). known_or o (0 ∷ 1 ∷ [])) c.order_number-order.ensures;
+  only_order_is = c.in_ok-known_or-7.ensures ∙ ap (λ (o : Option ℕ). known_or o (0 ∷ [])) c.order_number-order.ensures;
+  parities_are = c.in_ok-known_or-8.ensures
       ∙ ap (known_or c.args.known.now.parity) (c.deref-6.ensures.value ∙ c.in_ok-parities.ensures);
-  cpus_are = c.in_ok-known_or-7.ensures ∙ ap (known_or c.args.known.now.cpus) (c.deref-7.ensures.value ∙ c.in_ok-cpus.ensures);
+  cpus_are = c.in_ok-known_or-9.ensures ∙ ap (known_or c.args.known.now.cpus) (c.deref-7.ensures.value ∙ c.in_ok-cpus.ensures);
 }

@@ -10,7 +10,7 @@ use Rattle.layout_spec.specs.Laid.{params_of, zones_of}
 use Rattle.layout_spec.specs.Marks.{fits, marks}
 use Rattle.layout_spec.specs.Order.{faults}
 use Rattle.layout_search.specs.Rows.{dump_row_of, console_row_of, ftrace_row_of, pmsg_row_of}
-use Rattle.layout_search.proofs.Bounds.{first_counts}
+use Rattle.layout_search.proofs.Bounds.{first_ordered}
 use Rattle.layout_search.proofs.refusing.first_misses.Goals as goal
 
 not_true : (b : Bool) → not b ≡ true → b ≡ false
@@ -36,7 +36,7 @@ returns c = λ e t.
     let some : 0 < (dump_row_of k).count = omega (arith, dumps, c.if-dumps-eq0.false) in
     let all : 1 + (marks image - ((dump_row_of k).count + (console_row_of k).count + (ftrace_row_of k).count
     + (pmsg_row_of k).count)) ≤ faults image (zones_of tagged) =
-    first_counts image (params_of tagged) (dump_row_of k) (console_row_of k) (ftrace_row_of k) (pmsg_row_of k) some
+    first_ordered image (params_of tagged) k.order (dump_row_of k) (console_row_of k) (ftrace_row_of k) (pmsg_row_of k) some
     first in
     let enough : c.args.aim.now.limit ≤ c.args.aim.now.marks - (c.dump_row-dumps.result.count
     + (c.console_row.result.count + c.ftrace_row.result.count + c.pmsg_row.result.count)) = omega arith in

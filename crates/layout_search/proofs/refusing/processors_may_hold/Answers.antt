@@ -5,7 +5,7 @@ use Rattle.zone_spec.specs.declared.params.Params.{Params}
 use Rattle.zone_spec.specs.declared.params.Row.{Row}
 use Rattle.zone_spec.specs.Layout.{zones_from}
 use Rattle.layout_spec.specs.Order.{faults}
-use Rattle.layout_search.specs.Rows.{dump_row_of, console_row_of, ftrace_row_of}
+use Rattle.layout_search.specs.Rows.{dump_row_of, console_row_of}
 use Rattle.layout_search.proofs.BestSoFar.{bad_cpus, bad_rows, good_cpus}
 use Rattle.layout_search.proofs.refusing.processors_may_hold.Goals as goal
 
@@ -24,12 +24,10 @@ returns-clause-refused c = λ e known s.
     let image = c.args.image.now in
     let limit = c.args.aim.now.limit in
     bad_rows known image c.args.aim.now c.args.c.now s
+    (subst (λ rows. (p : Params) → limit < faults image (zones_from p 0 (dump_row_of c.args.c.now
+    ∷ console_row_of c.args.c.now ∷ rows))) c.last_rows.ensures.value
     (subst (λ (row : Row). (p : Params) → limit < faults image (zones_from p 0 (dump_row_of c.args.c.now
-    ∷ console_row_of c.args.c.now ∷ ftrace_row_of c.args.c.now ∷ row ∷ []))) c.pmsg_row-pmsg.ensures.value
-    (subst (λ (row : Row). (p : Params) → limit < faults image (zones_from p 0 (dump_row_of c.args.c.now
-    ∷ console_row_of c.args.c.now ∷ row ∷ c.pmsg_row-pmsg.result ∷ []))) c.ftrace_row-ftrace.ensures.value
-    (subst (λ (row : Row). (p : Params) → limit < faults image (zones_from p 0 (dump_row_of c.args.c.now
-    ∷ row ∷ c.ftrace_row-ftrace.result ∷ c.pmsg_row-pmsg.result ∷ []))) c.console_row-console.ensures.value
+    ∷ row ∷ c.last_rows.result.0 ∷ c.last_rows.result.1 ∷ []))) c.console_row-console.ensures.value
     (subst (λ (row : Row). (p : Params) → limit < faults image (zones_from p 0 (row
-    ∷ c.console_row-console.result ∷ c.ftrace_row-ftrace.result ∷ c.pmsg_row-pmsg.result ∷ [])))
-    c.dump_row-dumps.ensures.value (c.may_fit.ensures e)))))
+    ∷ c.console_row-console.result ∷ c.last_rows.result.0 ∷ c.last_rows.result.1 ∷ [])))
+    c.dump_row-dumps.ensures.value (c.may_fit.ensures e))))

@@ -5,9 +5,8 @@ use Rattle.serde_json.specs.View.{view, items_of}
 use Rattle.serde_json.specs.Written.{IsInOrder}
 use Rattle.prz_read.specs.Saving.{SavedLogs, saved}
 use Rattle.zone_spec.specs.PartStates.{PartStates}
-use Rattle.report_spec.specs.Packed.{RecordShown}
 use Rattle.report_spec.specs.Deaths.{death_told}
-use Rattle.report_json.specs.Schema.{line_with, parameters_data, record_data, death_data, AreZones}
+use Rattle.report_json.specs.Schema.{Answers, answers_by, line_with, parameters_data, record_data, AreZones}
 use Rattle.report_json.proofs.Places.{if_both}
 use Rattle.report_json.proofs.line.json.Goals as goal
 
@@ -20,19 +19,17 @@ returns c =
     ∙ ap (λ (l : SavedLogs). map (record_data (saved l)) c.records.result.now) c.logs.ensures
     ∙ ap (map (record_data (saved held.logs))) c.records.ensures in
     let parameters = parameters_data c.args.params.now in
-    let death : view c.in_ok-death.death ≡ death_data (death_told held.records) =
-    c.in_ok-death.ensures ∙ ap (λ (rs : List RecordShown). death_data (death_told rs)) c.records-2.ensures in
-    let died = death_data (death_told held.records) in
-    let line : view c.in_ok-value.value ≡ line_with died c.args.path.now parameters
+    let answers : Answers = answers_by held (death_told held.records) in
+    let line : view c.in_ok-value.value ≡ line_with answers c.args.path.now parameters
     (array (items_of (map (record_data (saved held.logs)) held.records))) (array (items_of values)) =
     c.in_ok-value.ensures
-    ∙ ap (λ d. line_with d c.args.path.now (view c.in_ok-parameters.parameters) (view c.from-records.result)
-    (view c.from-zones.result)) death
-    ∙ ap (λ p. line_with died c.args.path.now p (view c.from-records.result) (view c.from-zones.result))
+    ∙ ap (λ (a : Answers). line_with a c.args.path.now (view c.in_ok-parameters.parameters)
+    (view c.from-records.result) (view c.from-zones.result)) c.in_ok-answer.ensures
+    ∙ ap (λ p. line_with answers c.args.path.now p (view c.from-records.result) (view c.from-zones.result))
     c.in_ok-parameters.ensures
-    ∙ ap (λ r. line_with died c.args.path.now parameters r (view c.from-zones.result))
+    ∙ ap (λ r. line_with answers c.args.path.now parameters r (view c.from-zones.result))
     (c.from-records.ensures ∙ ap (λ (ds : List Data). array (items_of ds)) records)
-    ∙ ap (line_with died c.args.path.now parameters
+    ∙ ap (line_with answers c.args.path.now parameters
     (array (items_of (map (record_data (saved held.logs)) held.records)))) c.from-zones.ensures in
     if_both c.to_string.result _ _ _ (λ text order compact. record {
       values = values;

@@ -12,7 +12,7 @@ use Rattle.prz_read.proofs.Saves.{zip-at}
 use Rattle.pstore_records.proofs.Steps.{collected-more}
 use Rattle.report_text.specs.Pieces.{parts}
 use Rattle.report_text.specs.Tables.{zone_row}
-use Rattle.report_text.proofs.Rows.{row-of}
+use Rattle.report_text.proofs.ZoneRows.{row-of}
 use Rattle.report_text.proofs.zones.add_zones.Goals as goal
 
 pub loop-i-preserved : goal.loop-i-preserved

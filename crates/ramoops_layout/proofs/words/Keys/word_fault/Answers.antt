@@ -18,12 +18,12 @@ returns-then-is_some c = twice_fault (table_of c.args.self.now) (texts c.args.ea
 
 pub returns-then-is_none : goal.returns-then-is_none
 returns-then-is_none c = number_fault (table_of c.args.self.now) (texts c.args.earlier.now)
-    c.args.place c.args.word.now c.in-Some.key.now c.in-Some.text.now c.value.result c.number.result c.in-Some.ensures
+    c.args.place c.args.word.now c.in-Some.key.now c.in-Some.text.now c.value.result c.value_number.result c.in-Some.ensures
     (sym c.contains.ensures ∙ c.if-not-contains.false) c.value.ensures
-    (sym c.is_some.ensures ∙ c.if-is_some.false) c.number.ensures (c.is_none.ensures ∙ ap not c.if-is_none.true)
+    (sym c.is_some.ensures ∙ c.if-is_some.false) c.value_number.ensures (c.is_none.ensures ∙ ap not c.if-is_none.true)
 
 pub returns : goal.returns
 returns c = no_fault (table_of c.args.self.now) (texts c.args.earlier.now) c.args.place c.args.word.now
-    c.in-Some.key.now c.in-Some.text.now c.value.result c.number.result c.in-Some.ensures
+    c.in-Some.key.now c.in-Some.text.now c.value.result c.value_number.result c.in-Some.ensures
     (sym c.contains.ensures ∙ c.if-not-contains.false) c.value.ensures (sym c.is_some.ensures ∙ c.if-is_some.false)
-    c.number.ensures (c.is_none.ensures ∙ ap not c.if-is_none.false)
+    c.value_number.ensures (c.is_none.ensures ∙ ap not c.if-is_none.false)

@@ -1,0 +1,49 @@
+// The values of what the log of a death says of the machine, and of the signature.
+ghost use Rattle.std.specs.Prelude.{◌≡◌, IfOk};
+ghost use Rattle.serde_json.specs.View.{view};
+ghost use Rattle.report_spec.specs.Facts.{signature_told};
+ghost use Rattle.region_report.specs.Machines.{as_machine};
+ghost use Rattle.region_report.specs.Tellers.{told_in};
+ghost use Rattle.report_json.specs.Schema.{bytes_data, machine_with, machine_data};
+
+use crate::deaths::bytes_value;
+use region_report::{Machine, RecordReport, Telling, console, machine_told, signature_of};
+use serde_json::{Value, json};
+use std::alloc::{AllocError, Global};
+
+fn machine_with(alloc: Global, machine: Machine<'_>) -> Result<Value, AllocError>
+    ensures { IfOk result (λ v. view v ≡ machine_with (as_machine machine.entry)) }
+{
+    let cmdline = bytes_value(alloc, machine.cmdline)?;
+    let hardware = bytes_value(alloc, machine.hardware)?;
+    let modules = bytes_value(alloc, machine.modules)?;
+    let version = bytes_value(alloc, machine.version)?;
+    json!(in alloc; {
+        "cmdline": cmdline,
+        "hardware": hardware,
+        "modules": modules,
+        "version": version
+    })
+}
+
+/// What the log of a death says of the machine, or null.
+pub fn machine_value(
+    alloc: Global,
+    records: &[RecordReport],
+    told: Option<Telling<'_>>,
+) -> Result<Value, AllocError>
+    ensures { IfOk result (λ v. view v ≡ machine_data records.now (told_in told.entry)) }
+{
+    match told {
+        Some(told) => machine_with(alloc, machine_told(&told, console(records))),
+        None => Ok(Value::Null),
+    }
+}
+
+/// The signature of a death, or null.
+pub fn signature_value(alloc: Global, told: Option<Telling<'_>>) -> Result<Value, AllocError>
+    ensures { IfOk result (λ v. view v ≡ bytes_data (signature_told (told_in told.entry))) }
+{
+    let signature = signature_of(alloc, told)?;
+    bytes_value(alloc, signature.as_slice())
+}

@@ -1,0 +1,4 @@
+pub mod Zones
+pub mod Records
+pub mod Found
+pub mod Told

@@ -1,0 +1,4 @@
+mod Takes
+mod Numbered
+mod Orders
+mod Lists

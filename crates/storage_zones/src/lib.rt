@@ -1,0 +1,17 @@
+//! A storage that the kernel's pstore_zone wrote (`fs/pstore/zone.c`), read as a region is: its zones with what a boot
+//! takes them for, the records that the next boot lists, and whether the bytes of a file show a storage.
+#![tactic(auto)]
+
+mod contents;
+mod finding;
+mod listing;
+mod records;
+mod telling;
+mod traces;
+mod zones;
+
+pub use finding::storage_in;
+pub use listing::held_records;
+pub use storage_spec::Storage;
+pub use telling::storage_lines;
+pub use zones::{ZonesRead, read_zones};
