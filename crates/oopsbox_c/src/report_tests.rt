@@ -29,7 +29,7 @@ fn reported(
 fn an_image_is_reported(rt: HostRuntime) -> Result<(), Fail> {
     let mut text = [b'-'; 4096];
     for (format, front) in [
-        (0, b"here".as_slice()),
+        (0, b"no death: the log breaks off;".as_slice()),
         (1, b"{".as_slice()),
         (2, b"<!doctype html>".as_slice()),
     ] {

@@ -34,7 +34,9 @@ fn a_line_lays_the_image_out(rt: HostRuntime) -> Result<(), Fail> {
     let mut text = [b'-'; 4096];
     let (status, answer) = reported(alloc, LINE, b"", &mut text);
     assert!(rt; (status, answer.hint) == (0, 0));
-    assert!(rt; text.starts_with(b"here".as_slice()));
+    assert!(rt;
+        text.starts_with(b"no death: no record tells of the kernel\n  image      here\n".as_slice())
+    );
     assert!(rt; reported(alloc, LINE, b"", &mut [0; 5]).0 == 12);
     assert!(rt; reported(alloc, LINE, b"\xff", &mut text).0 == 13);
     assert!(rt; reported(alloc, b"\"", b"", &mut text).0 == 13);

@@ -93,7 +93,7 @@ fn one_mebibyte_is_laid_out(rt: HostRuntime) {
 // The region of 64 KiB of a kernel 6.12, and the same of 6.1.
 #[test]
 fn ftrace_and_pmsg_lie_in_the_order_given(rt: HostRuntime) {
-    let sizes = "mem_size=65536 record_size=8192 ecc=1";
+    let sizes = "mem_size=65536 ecc=1";
     for (order, ftrace, pmsg) in [
         ("order=console,pmsg,ftrace", 61440, 57344),
         ("order=console,ftrace,pmsg", 57344, 61440),
