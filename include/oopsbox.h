@@ -257,6 +257,18 @@ uint32_t oopsbox_flight_next(struct oopsbox_flight *flight, const uint8_t *zone,
 			     struct oopsbox_stores *stores);
 
 /*
+ * oopsbox_append_begin and the first oopsbox_flight_next in one call: begins to append payload[0 .. payload_len), and
+ * hands out the first stores, up to the first parity. Of an append without parity these are all: is_last is 1. Where
+ * it is 0, make the stores and go on with oopsbox_flight_next.
+ *
+ * OOPSBOX_DONE: *flight and *stores were written. OOPSBOX_ARGUMENT, OOPSBOX_CLOSED: as oopsbox_append_begin; nothing was
+ * written.
+ */
+uint32_t oopsbox_append(const struct oopsbox_zone_place *place, const uint8_t *zone, size_t zone_len,
+			const uint8_t *payload, size_t payload_len, struct oopsbox_flight *flight,
+			struct oopsbox_stores *stores);
+
+/*
  * What a boot reads of a zone: its state, its words, its counts and the log's length, corrected where they can be.
  *
  * OOPSBOX_DONE: *answer was written. OOPSBOX_ARGUMENT: no layout can have such a zone, zone_len is not place->size, or

@@ -113,15 +113,18 @@ static void make(const struct lane *lane)
 	}
 }
 
+/* Begins what the zone was asked to write. Of an append it tells the first stores too. */
 static u32 begin(struct lane *lane)
 {
 	const struct oopsbox_zone_place *place = &lane->zone->place;
 	const u8 *bytes = lane->zone->bytes;
 
+	lane->stores.count = 0;
+	lane->stores.is_last = 0;
 	switch (lane->kind) {
 	case OOPSBOX_APPEND:
-		return oopsbox_append_begin(place, bytes, place->size, lane->payload, lane->len,
-					    &lane->flight);
+		return oopsbox_append(place, bytes, place->size, lane->payload, lane->len,
+				      &lane->flight, &lane->stores);
 	case OOPSBOX_WRITE_DUMP:
 		return oopsbox_dump_begin(place, bytes, place->size, lane->line, lane->line_len,
 					  lane->payload, lane->len, &lane->flight);
@@ -136,13 +139,13 @@ __visible noinline void oopsbox_turn(struct lane *lane)
 	const struct oops_zone *z = lane->zone;
 	u32 status = begin(lane);
 
-	lane->stores.is_last = 0;
-	while (status == OOPSBOX_DONE && !lane->stores.is_last) {
+	while (status == OOPSBOX_DONE) {
+		make(lane);
+		if (lane->stores.is_last)
+			break;
 		status = oopsbox_flight_next(&lane->flight, z->bytes, z->place.size, lane->line,
 					     lane->line_len, lane->payload, lane->len, table, rows,
 					     U32_MAX, &lane->stores);
-		if (status == OOPSBOX_DONE)
-			make(lane);
 	}
 	lane->status = status;
 }

@@ -41,12 +41,13 @@ static uint32_t ring_append(struct ring *ring, const uint8_t *bytes, size_t leng
 {
 	struct oopsbox_flight flight;
 	struct oopsbox_stores stores;
-	uint32_t status = oopsbox_append_begin(&ring->place, ring->zone, ring->place.size, bytes, length, &flight);
-	for (stores.is_last = 0; status == OOPSBOX_DONE && !stores.is_last;) {
+	uint32_t status = oopsbox_append(&ring->place, ring->zone, ring->place.size, bytes, length, &flight, &stores);
+	while (status == OOPSBOX_DONE) {
+		make(ring, &stores, bytes);
+		if (stores.is_last)
+			break;
 		status = oopsbox_flight_next(&flight, ring->zone, ring->place.size, NULL, 0, bytes, length, ring->table,
 					     OOPSBOX_TABLE, UINT32_MAX, &stores);
-		if (status == OOPSBOX_DONE)
-			make(ring, &stores, bytes);
 	}
 	return status;
 }

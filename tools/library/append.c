@@ -32,15 +32,13 @@ static void append_line(const uint8_t *line)
 {
 	struct oopsbox_flight flight;
 	struct oopsbox_stores stores;
-	uint32_t status = oopsbox_append_begin(&zone.place, zone.bytes, zone.place.size, line, LENGTH, &flight);
+	uint32_t status = oopsbox_append(&zone.place, zone.bytes, zone.place.size, line, LENGTH, &flight, &stores);
 	while (status == OOPSBOX_DONE) {
-		status = next_stores(&zone, &flight, NULL, 0, line, LENGTH, UINT32_MAX, &stores);
-		if (status != OOPSBOX_DONE)
-			break;
 		for (uint32_t i = 0; i < stores.count; i++)
 			make_at_once(&stores.stores[i], line);
 		if (stores.is_last)
 			return;
+		status = next_stores(&zone, &flight, NULL, 0, line, LENGTH, UINT32_MAX, &stores);
 	}
 	printf("an append is refused: %u\n", (unsigned)status);
 	exit(1);

@@ -271,11 +271,13 @@ static void begins(void)
 	static const uint8_t bytes[40] = "line";
 	struct oopsbox_zone_place wrong[12];
 	struct oopsbox_flight flight;
+	struct oopsbox_stores stores;
 	struct oopsbox_boot boot;
 	struct oopsbox_zone_answer answer;
 	uint8_t log[8];
 	uint64_t got;
 	SEVEN(flight);
+	SEVEN(stores);
 	SEVEN(boot);
 	SEVEN(answer);
 	SEVEN(log);
@@ -286,6 +288,7 @@ static void begins(void)
 		size_t size = i == 12 ? SIZE - 1 : i == 13 ? SIZE + 1 : SIZE;
 		const struct oopsbox_row *table = zone.table;
 		WANT(oopsbox_append_begin(place, stand, size, bytes, 4, &flight) == OOPSBOX_ARGUMENT);
+		WANT(oopsbox_append(place, stand, size, bytes, 4, &flight, &stores) == OOPSBOX_ARGUMENT);
 		WANT(oopsbox_erase_begin(place, stand, size, &flight) == OOPSBOX_ARGUMENT);
 		WANT(oopsbox_dump_begin(place, stand, size, bytes, 4, bytes, 4, &flight) == OOPSBOX_ARGUMENT);
 		WANT(oopsbox_boot_begin(place, stand, size, &boot) == OOPSBOX_ARGUMENT);
@@ -293,12 +296,13 @@ static void begins(void)
 		WANT(oopsbox_zone_log(place, stand, size, table, 256, 0, log, 8, &got) == OOPSBOX_ARGUMENT);
 	}
 	WANT(oopsbox_append_begin(&zone.place, NULL, 0, bytes, 4, &flight) == OOPSBOX_ARGUMENT);
+	WANT(oopsbox_append(&zone.place, NULL, 0, bytes, 4, &flight, &stores) == OOPSBOX_ARGUMENT);
 	WANT(oopsbox_dump_begin(&zone.place, stand, SIZE, bytes, 37, bytes, 4, &flight) == OOPSBOX_ARGUMENT);
 	for (size_t rows = 1; rows < 300; rows += 127) { /* 1, 128, 255 */
 		WANT(oopsbox_zone_read(&zone.place, stand, SIZE, zone.table, rows, &answer) == OOPSBOX_ARGUMENT);
 		WANT(oopsbox_zone_log(&zone.place, stand, SIZE, zone.table, rows, 0, log, 8, &got) == OOPSBOX_ARGUMENT);
 	}
-	WANT(IS_SEVEN(flight) && IS_SEVEN(boot) && IS_SEVEN(answer) && IS_SEVEN(log) && IS_SEVEN(got));
+	WANT(IS_SEVEN(flight) && IS_SEVEN(stores) && IS_SEVEN(boot) && IS_SEVEN(answer) && IS_SEVEN(log) && IS_SEVEN(got));
 }
 
 static void set_words(uint32_t sig, uint32_t start, uint32_t size)
@@ -317,6 +321,7 @@ static void closed(void)
 		{sig, UINT32_MAX, UINT32_MAX, 0, 0}, {sig, 0, UINT32_MAX, 0, 0}, {sig, 3, 5, 0, 1}, {sig, cap, cap, 0, 1},
 		{sig, 0, 5, 0, 1}};
 	struct oopsbox_flight flight;
+	struct oopsbox_stores stores;
 	for (size_t i = 0; i < sizeof(rings) / sizeof(rings[0]); i++) {
 		uint32_t open = rings[i].appends ? OOPSBOX_DONE : OOPSBOX_CLOSED;
 		uint32_t ring = rings[i].erases ? OOPSBOX_DONE : OOPSBOX_CLOSED;
@@ -324,6 +329,10 @@ static void closed(void)
 		SEVEN(flight);
 		WANT(oopsbox_append_begin(&zone.place, stand, SIZE, (const uint8_t *)"abc", 3, &flight) == open);
 		WANT(rings[i].appends || IS_SEVEN(flight));
+		SEVEN(flight);
+		SEVEN(stores);
+		WANT(oopsbox_append(&zone.place, stand, SIZE, (const uint8_t *)"abc", 3, &flight, &stores) == open);
+		WANT(rings[i].appends || (IS_SEVEN(flight) && IS_SEVEN(stores)));
 		SEVEN(flight);
 		WANT(oopsbox_erase_begin(&zone.place, stand, SIZE, &flight) == ring && (rings[i].erases || IS_SEVEN(flight)));
 		SEVEN(flight);

@@ -149,6 +149,20 @@ static void compare_boots(void)
 	stores_made += total;
 }
 
+/* oopsbox_append answers what a begin and the first answer do. */
+static void compare_append(struct zone *z, size_t length, const struct oopsbox_flight *begun)
+{
+	struct oopsbox_stores a, b;
+	struct oopsbox_flight one, two = *begun;
+	memset(&a, 0, sizeof(a));
+	memset(&b, 0, sizeof(b));
+	if (oopsbox_append(&z->place, z->bytes, z->place.size, payload, length, &one, &a) != OOPSBOX_DONE
+	    || next_stores(z, &two, NULL, 0, payload, length, UINT32_MAX, &b) != OOPSBOX_DONE)
+		fails("no append", length);
+	if (memcmp(&one, &two, sizeof(one)) != 0 || memcmp(&a, &b, sizeof(a)) != 0)
+		fails("another append", length);
+}
+
 static uint32_t begin(const struct zone *z, uint32_t kind, const char *line, size_t length,
 		      struct oopsbox_flight *flight)
 {
@@ -168,6 +182,8 @@ static uint64_t call(struct zone *z, uint32_t kind, const char *line, size_t len
 	struct oopsbox_stores stores;
 	if (begin(z, kind, line, length, &flight) != OOPSBOX_DONE)
 		fails("refused", kind);
+	if (kind == OOPSBOX_APPEND)
+		compare_append(z, length, &flight);
 	stores.is_last = 0;
 	while (flight.made < most_stores && !stores.is_last) {
 		uint64_t left = most_stores - flight.made, made = flight.made;

@@ -155,6 +155,12 @@ static void *append_begin(void *unused)
 	return unused;
 }
 
+static void *append_call(void *unused)
+{
+	check(oopsbox_append(&store.place, room, store.place.size, text, 9000, &flight, &stores) == OOPSBOX_DONE, "append");
+	return unused;
+}
+
 static void *erase_begin(void *unused)
 {
 	check(oopsbox_erase_begin(&store.place, room, store.place.size, &flight) == OOPSBOX_DONE, "erase_begin");
@@ -212,7 +218,7 @@ static void *boot_next(void *unused)
 	return unused;
 }
 
-enum { PLACE_CALLS = 10, PLACE_STACK = 1 << 17 };
+enum { PLACE_CALLS = 11, PLACE_STACK = 1 << 17 };
 
 static const struct {
 	const char *name;
@@ -221,7 +227,7 @@ static const struct {
 	{"oopsbox_zone_at", zone_at}, {"oopsbox_table", table}, {"oopsbox_append_begin", append_begin},
 	{"oopsbox_erase_begin", erase_begin}, {"oopsbox_dump_begin", dump_begin}, {"oopsbox_flight_next", flight_next},
 	{"oopsbox_zone_read", zone_read}, {"oopsbox_zone_log", zone_log}, {"oopsbox_boot_begin", boot_begin},
-	{"oopsbox_boot_next", boot_next}};
+	{"oopsbox_boot_next", boot_next}, {"oopsbox_append", append_call}};
 
 /* Half the parity of each part is wrong. */
 static void damage(void)
@@ -258,6 +264,7 @@ static void note_zone(size_t *most, uint32_t parity, size_t rows)
 		note(most, zone_read);
 		note(most, boot_begin);
 		note(most, boot_next);
+		note(most, append_call);
 		note(most, round == 0 ? append_begin : dump_begin);
 		note(most, flight_next);
 		damage();

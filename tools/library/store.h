@@ -69,12 +69,12 @@ static inline uint32_t append(struct zone *zone, const uint8_t *payload, size_t 
 {
 	struct oopsbox_flight flight;
 	struct oopsbox_stores stores;
-	uint32_t status = oopsbox_append_begin(&zone->place, zone->bytes, zone->place.size, payload, length, &flight);
-	stores.is_last = 0;
-	while (status == OOPSBOX_DONE && !stores.is_last) {
+	uint32_t status = oopsbox_append(&zone->place, zone->bytes, zone->place.size, payload, length, &flight, &stores);
+	while (status == OOPSBOX_DONE) {
+		make_stores(zone, &stores, NULL, payload);
+		if (stores.is_last)
+			break;
 		status = next_stores(zone, &flight, NULL, 0, payload, length, UINT32_MAX, &stores);
-		if (status == OOPSBOX_DONE)
-			make_stores(zone, &stores, NULL, payload);
 	}
 	return status;
 }

@@ -1,6 +1,7 @@
 -- What the calls on a flight answer
-use Rattle.std.specs.Prelude.{◌≡◌, ℕ, ◌+◌, ◌<◌, ◌≤◌, ◌↔◌, ◌⊎◌, List, length, take, drop}
+use Rattle.std.specs.Prelude.{◌≡◌, ℕ, ◌+◌, ◌<◌, ◌≤◌, ◌↔◌, ◌⊎◌, List, [], length, take, drop}
 use Rattle.zone_spec.specs.declared.CallKind.{CallKind}
+use Rattle.zone_spec.specs.declared.CallKind.TheVariants.{Append}
 use Rattle.zone_spec.specs.declared.Zone.{Zone}
 use Rattle.zone_spec.specs.Told.{Call}
 use Rattle.zone_spec.specs.Parts.{standing_words}
@@ -125,3 +126,18 @@ NextEnds Done f g image line payload table most old new = CanGoOn f image line p
 NextEnds Argument f g image line payload table most old new = (¬ (CanGoOn f image line payload table most))
     × (g ≡ f) × (new ≡ old)
 NextEnds other f g image line payload table most old new = ⊥
+
+-- ---- an append, with its first stores in the same answer
+
+-- as many as there are: up to the first parity, or all
+pub record IsAppended (place : ZonePlace) (image payload : List ℕ) (f : Flight) (out : Stores) : Type 0 where
+  pub begun : Flight
+  pub is_begun : IsBegun place Append image [] payload begun
+  pub is_next : IsNext begun f image [] payload 4_294_967_295 out
+
+abbrev pub AppendEnds : End → ZonePlace → List ℕ → List ℕ → Flight → Flight → Stores → Stores → Type 0
+AppendEnds Done place image payload f g old new = IsAppended place image payload g new
+AppendEnds Argument place image payload f g old new = (¬ (IsAsked place image [])) × (g ≡ f) × (new ≡ old)
+AppendEnds Closed place image payload f g old new = IsAsked place image []
+    × (¬ (CanBeWritten (zone_in place) (call_of Append [] payload) image)) × (g ≡ f) × (new ≡ old)
+AppendEnds other place image payload f g old new = ⊥

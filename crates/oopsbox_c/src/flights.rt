@@ -9,7 +9,7 @@ ghost use Rattle.oopsbox_c.specs.Gathered.{IsGathered, HasGone};
 ghost use Rattle.oopsbox_c.specs.Ends.{status_of};
 ghost use Rattle.oopsbox_c.specs.Places.{zone_in};
 ghost use Rattle.oopsbox_c.specs.Tables.{IsOwed, IsLendable};
-ghost use Rattle.oopsbox_c.specs.Flights.{steps_of, IsFlight, BeginEnds, IsAsked, IsNext, NextEnds};
+ghost use Rattle.oopsbox_c.specs.Flights.{steps_of, IsFlight, BeginEnds, IsAsked, IsNext, NextEnds, AppendEnds};
 ghost use Rattle.zone_spec.specs.declared.CallKind.TheVariants.{Append, Erase, Dump};
 
 use crate::End;
@@ -353,5 +353,39 @@ pub extern "C" fn oopsbox_flight_next(
         × NextEnds end flight.old flight.new image.now line.now payload.now table.now most stores.old stores.new }
 {
     let end = next(flight, image, line, payload, table, most, stores);
+    end.status()
+}
+
+// Begins an append, and hands out its first stores.
+fn append(
+    place: &ZonePlace,
+    image: &[u8],
+    payload: &[u8],
+    flight: &mut Flight,
+    stores: &mut Stores,
+) -> End
+    ensures { AppendEnds result place.now image.now payload.now flight.old flight.new stores.old stores.new }
+{
+    let end = begin(place, CallKind::Append, image, &[], payload, flight);
+    if let End::Done = end {
+        go_on(flight, image, &[], payload, &[], u32::MAX, stores);
+    }
+    end
+}
+
+/// Begins to append `payload` to the zone that stands as `image`, and hands out the first stores, up to the first
+/// parity: without parity all of them.
+#[unsafe(no_mangle)]
+pub extern "C" fn oopsbox_append(
+    place: &ZonePlace,
+    image: &[u8],
+    payload: &[u8],
+    flight: &mut Flight,
+    stores: &mut Stores,
+) -> u32
+    ensures { (end : End) × (result ≡ status_of end)
+        × AppendEnds end place.now image.now payload.now flight.old flight.new stores.old stores.new }
+{
+    let end = append(place, image, payload, flight, stores);
     end.status()
 }

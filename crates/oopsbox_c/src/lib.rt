@@ -25,7 +25,8 @@ pub use calls::{oopsbox_layout, oopsbox_run, oopsbox_zone};
 pub use codes::{oopsbox_rs_decode, oopsbox_rs_encode};
 pub use ends::End;
 pub use flights::{
-    Flight, oopsbox_append_begin, oopsbox_dump_begin, oopsbox_erase_begin, oopsbox_flight_next,
+    Flight, oopsbox_append, oopsbox_append_begin, oopsbox_dump_begin, oopsbox_erase_begin,
+    oopsbox_flight_next,
 };
 pub use laws::flights_are_whole;
 pub use layouts::{LayoutParams, oopsbox_zone_at};

@@ -74,11 +74,12 @@ static void say(const char *line)
 	size_t length = 0;
 	while (bytes[length] != 0)
 		length++;
-	check(oopsbox_append_begin(&place, zone, place.size, bytes, length, &flight));
-	do {
+	check(oopsbox_append(&place, zone, place.size, bytes, length, &flight, &stores));
+	make(&stores, bytes);
+	while (!stores.is_last) {
 		check(oopsbox_flight_next(&flight, zone, place.size, NULL, 0, bytes, length, NULL, 0, UINT32_MAX, &stores));
 		make(&stores, bytes);
-	} while (!stores.is_last);
+	}
 }
 
 static void boot_zone(void)
