@@ -4,13 +4,15 @@ ghost use Rattle.std.specs.List.{starts_with};
 ghost use Rattle.std.specs.Option.{option_copied};
 ghost use Rattle.death_spec.specs.Lines.{lines_from};
 ghost use Rattle.report_spec.specs.Facts.{said_after as said_after_words, or_bytes, machine_in, machine_or};
-ghost use Rattle.report_spec.specs.Facts.{shared_text as text_shared, machine_of, signature_told};
+ghost use Rattle.report_spec.specs.Facts.{model_in, shared_text as text_shared, machine_of, machine_ended};
+ghost use Rattle.report_spec.specs.Facts.{signature_told};
 ghost use Rattle.region_report.specs.Machines.{as_machine};
-ghost use Rattle.region_report.specs.Tellers.{as_told, told_in};
+ghost use Rattle.region_report.specs.Tellers.{as_told, told_in, as_ended};
 ghost use Rattle.report_spec.specs.Facts.{trimmed as trimmed_of, uptime_of, is_digit as is_digit_byte};
 ghost use Rattle.report_spec.specs.Facts.{with_digit as with_digit_byte, seconds_from};
 
 use crate::deaths::{Telling, has_telling_line};
+use crate::ends::End;
 use crate::shown::RecordReport;
 use death::{next_line, part, said, signature};
 use death_spec::Line;
@@ -102,11 +104,24 @@ fn or_bytes<'a>(bytes: &'a [u8], other: &'a [u8]) -> &'a [u8]
     if bytes.is_empty() { other } else { bytes }
 }
 
+// The machine's name by the lines of its boot.
+fn model_in(text: &[u8]) -> &[u8]
+    ensures { result.now ≡ model_in text.entry.now (lines_from text.entry.now 0) }
+{
+    or_bytes(
+        said_after(text, b"Machine model: ", 0),
+        or_bytes(
+            said_after(text, b"OF: fdt: Machine model: ", 0),
+            said_after(text, b"DMI: ", 0),
+        ),
+    )
+}
+
 fn machine_in(text: &[u8], at: usize) -> Machine<'_>
     ensures { as_machine result ≡ machine_in text.now at }
 {
     Machine {
-        hardware: said_after(text, b"Hardware name: ", at),
+        hardware: or_bytes(said_after(text, b"Hardware name: ", at), model_in(text)),
         modules: said_after(text, b"Modules linked in: ", at),
         cmdline: or_bytes(
             said_after(text, b"Kernel command line: ", 0),
@@ -146,6 +161,14 @@ pub fn machine_told<'a>(told: &Telling<'a>, console: Option<&'a RecordReport>) -
         machine_in(teller.readable(), told.death.telling.next),
         machine_in(shared_text(told, console), 0),
     )
+}
+
+/// What the record says of the machine that tells how a log ends without a death.
+pub fn machine_ended<'a>(end: &End<'a>) -> Machine<'a>
+    ensures { as_machine result ≡ machine_ended (as_ended end.now) }
+{
+    let teller: &'a RecordReport = end.teller;
+    machine_in(teller.readable(), 0)
 }
 
 /// A name for a death, the same on each machine that dies so; empty if no record tells why the machine died.

@@ -16,11 +16,11 @@ mod warnings;
 
 pub use counted::counts;
 pub use deaths::{Telling, death_told, has_telling_line, other_told, others_told};
-pub use ends::{End, dump_reason, end_told};
+pub use ends::{End, dump_reason, end_text, end_told};
 pub use excerpts::{below, place_above};
-pub use facts::{Machine, machine_told, seconds, signature_of, uptime};
+pub use facts::{Machine, machine_ended, machine_told, seconds, signature_of, uptime};
 pub use laws::one_shown;
-pub use moments::push_moment;
+pub use moments::{push_long, push_moment};
 pub use newest::{android_log, console, is_console, is_newer, newest_dump};
 pub use prz_read::ZoneParts;
 pub use report::{Report, report_of, report_of_zones};

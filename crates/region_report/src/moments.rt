@@ -1,7 +1,7 @@
 // Times.
 ghost use Rattle.std.specs.Prelude.{◌≡◌, ◌++◌, ◌<◌, OnOk};
 ghost use Rattle.report_spec.specs.Moments.{day_text as text_of_day, six_text as text_of_six, micros_text, dated_text};
-ghost use Rattle.report_spec.specs.Moments.{undated_text, moment_text};
+ghost use Rattle.report_spec.specs.Moments.{undated_text, moment_text, unit_text, long_text};
 
 use itoa::Buffer;
 use pmsg::{date_of, date_text, digit};
@@ -80,5 +80,39 @@ pub fn push_moment(out: &mut Vec<u8>, time: Time) -> Result<(), AllocError>
         push_dated(out, days as u32, (time.secs % 86_400) as u32, time.micros)
     } else {
         push_undated(out, time)
+    }
+}
+
+/// Appends a number of one unit and a number of a smaller one, in parentheses.
+fn push_units(
+    out: &mut Vec<u8>,
+    large: u64,
+    unit: &str,
+    small: u64,
+    end: &str,
+) -> Result<(), AllocError>
+    ensures { OnOk result (out.new.items
+        ≡ out.old.items ++ unit_text large unit.now small end.now) }
+{
+    let mut digits = Buffer::new();
+    out.extend_from_slice(b" (")?;
+    out.extend_from_slice(digits.format(large).as_bytes())?;
+    out.extend_from_slice(unit.as_bytes())?;
+    out.extend_from_slice(digits.format(small).as_bytes())?;
+    out.extend_from_slice(end.as_bytes())
+}
+
+/// Appends seconds in larger units, from a minute on.
+pub fn push_long(out: &mut Vec<u8>, seconds: u64) -> Result<(), AllocError>
+    ensures { OnOk result (out.new.items ≡ out.old.items ++ long_text seconds) }
+{
+    if seconds < 60 {
+        Ok(())
+    } else if seconds < 3600 {
+        push_units(out, seconds / 60, " min ", seconds % 60, " s)")
+    } else if seconds < 86_400 {
+        push_units(out, seconds / 3600, " h ", seconds / 60 % 60, " min)")
+    } else {
+        push_units(out, seconds / 86_400, " d ", seconds / 3600 % 24, " h)")
     }
 }

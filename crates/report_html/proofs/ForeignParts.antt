@@ -3,7 +3,8 @@ use Rattle.std.proofs.Common.{◌≡◌, ℕ, zero, suc, ◌+◌, ◌<◌, ◌�
 use Rattle.std.proofs.Common.{◌++◌, length, slice_get, map, take, drop, ◌-◌, ◌*◌, ◌/◌, All, Option, Some, None, codes}
 use Rattle.std.proofs.Common.{append_assoc, refl, sym, ap, ap₂, ◌∙◌, subst, append-nil, get_or, inl, inr, arith}
 use Rattle.std.specs.Prelude.{⊤, filter, flat_map}
-use Rattle.std.specs.List.{fold, list_any, zip}
+use Rattle.std.specs.List.{fold, list_any, zip, prefix_len}
+use Rattle.std.specs.Char.{is_ascii_whitespace}
 use Rattle.std.specs.Option.{option_map}
 use Rattle.std.proofs.lemmas.Bool.{cases_order}
 use Rattle.std.proofs.lemmas.List.Elements.{All-cons, All-nil}
@@ -23,8 +24,10 @@ use Rattle.zone_spec.specs.PartStates.{PartStates}
 use Rattle.report_spec.specs.declared.Packing.{Packing}
 use Rattle.report_spec.specs.declared.Packing.TheVariants.{Plain, Whole, Part as PartOfText}
 use Rattle.report_spec.specs.Packed.{RecordShown, readable}
-use Rattle.report_spec.specs.Newest.{newest}
+use Rattle.report_spec.specs.Newest.{newest, console_of}
 use Rattle.report_spec.specs.Deaths.{DeathTold, death_told}
+use Rattle.report_spec.specs.Ends.{EndTold, end_told}
+use Rattle.report_spec.specs.Facts.{MachineTold, trimmed, uptime_of, machine_of, machine_ended, signature_told}
 use Rattle.zone_spec.specs.Reading.{ZoneReading}
 use Rattle.death_spec.specs.declared.Line.{Line}
 use Rattle.death_spec.specs.declared.Span.{Span}
@@ -47,7 +50,9 @@ use Rattle.report_html.specs.Pictures.{corrected_parts, header_parts, blocks_par
 use Rattle.report_html.specs.Pictures.{unused_parts, row_parts, zone_parts, drawn_parts, width_of}
 use Rattle.report_html.specs.Pictures.{all_drawn}
 use Rattle.report_html.specs.Before.{told_before, time_after, before_parts, before_bytes}
-use Rattle.report_html.specs.Died.{second_parts, said_parts, why_parts, fact_parts, stamp_of, when_parts}
+use Rattle.report_html.specs.Facts.{when_parts, up_parts, bytes_parts, machine_parts, some_bytes, machine_bytes}
+use Rattle.report_html.specs.Ended.{end_facts, end_parts, end_bytes}
+use Rattle.report_html.specs.Died.{second_parts, said_parts, why_parts, fact_parts}
 use Rattle.report_spec.specs.Excerpts.{place_above, below}
 use Rattle.report_html.specs.Died.{context_parts, rest_parts, around_parts}
 use Rattle.report_html.specs.Died.{death_parts, died_parts, second_bytes, named_bytes}
@@ -60,17 +65,19 @@ use Rattle.report_html.specs.Causes.{has_line_of, time_cell, newest_cells, row_p
 use Rattle.report_html.specs.Causes.{line_part, cause_parts, others_parts, table_parts, table_of}
 use Rattle.report_html.specs.Causes.{causes_parts, line_bytes, lines_of, causes_bytes}
 use Rattle.report_html.specs.Parameters.{parameters_parts}
-use Rattle.report_html.specs.declared.words.TheConstants.{END}
+use Rattle.report_html.specs.declared.style.TheConstants.{STYLE}
+use Rattle.report_html.specs.declared.words.TheConstants.{HEAD, NAVIGATION, END}
 use Rattle.report_html.specs.Groups.{are_grouped, group_in, is_same, end_parts, begin_parts, edge_parts}
 use Rattle.report_html.specs.Pages.{time_parts, packing_parts, record_parts}
-use Rattle.report_html.specs.Pages.{records_after, list_parts, records_opening, heading_parts, page_with}
-use Rattle.report_html.specs.Pages.{page_parts}
+use Rattle.report_html.specs.Pages.{records_after, list_parts, records_opening, named_parts, name_bytes}
+use Rattle.report_html.specs.Pages.{heading_parts, page_with, page_parts}
 use Rattle.report_html.specs.Reads.{counted_parts, number_parts, read_parts}
 use Rattle.report_spec.specs.declared.Warning.{Warning}
 use Rattle.report_spec.specs.declared.Warning.TheVariants.{ConsoleTells, BadTeller, BadHeaders, NoLog, ManyBad}
 use Rattle.region_report.specs.Warned.{warnings_by}
 use Rattle.report_html.specs.Warnings.{warning_parts, warnings_parts}
-use Rattle.report_html.specs.Escaping.{foreign_in, foreign_of, HoldBytes, TellsBytes, AllTellBytes, IsWithoutMarkup}
+use Rattle.report_html.specs.Escaping.{foreign_in, foreign_of, HoldBytes, TellsBytes, EndsBytes, AreMachineBytes}
+use Rattle.report_html.specs.Escaping.{AreDeathBytes, AllTellBytes, foreign_by, IsWithoutMarkup}
 use Rattle.report_html.proofs.Texts.{is-text}
 
 both : (a b : List Part) → foreign_of (a ++ b) ≡ foreign_of a ++ foreign_of b
@@ -233,13 +240,25 @@ of-second text line (Some second) = refl
 of-said : (text : List ℕ) (d : Death) → foreign_of (said_parts text d) ≡ said_bytes text d
 of-said text d = of-second text (part text d.telling.text d.telling.end) d.second
 
-of-why : (told : Option DeathTold) → foreign_of (why_parts told) ≡ why_bytes told
-of-why None = refl
-of-why (Some t) = of-said (readable t.teller) t.death
+of-why : (records : List RecordShown) (told : Option DeathTold)
+    → foreign_of (why_parts records told) ≡ why_bytes told
+of-why records None = refl
+of-why records (Some t) = of-said (readable t.teller) t.death
 
 of-when : (time : Option Time) → foreign_of (when_parts time) ≡ []
 of-when None = refl
 of-when (Some time) = refl
+
+of-up : (uptime : List ℕ) → foreign_of (up_parts uptime) ≡ some_bytes uptime
+of-up [] = refl
+of-up (b ∷ bs) = refl
+
+of-bytes : (label bytes : List ℕ) → foreign_of (bytes_parts label bytes) ≡ some_bytes bytes
+of-bytes label [] = refl
+of-bytes label (b ∷ bs) = refl
+
+of-machine : (m : MachineTold) → foreign_of (machine_parts m) ≡ machine_bytes m
+of-machine m = simp (both, of-bytes)
 
 of-fact : (label missing text : List ℕ) (span : Option Span)
     → foreign_of (fact_parts label missing text span) ≡ named_bytes text span
@@ -268,14 +287,19 @@ of-before : (before : Option DeathTold) → foreign_of (before_parts before) ≡
 of-before None = refl
 of-before (Some t) = simp (both, of-after)
 
-of-death : (records : List RecordShown) (t : DeathTold) → foreign_of (death_parts records t)
-    ≡ death_bytes (readable t.teller) t.death (told_before t.teller.name records)
-of-death records t = simp (both, of-when, of-fact, of-before, of-around, append-nil)
+of-death : (signature : List ℕ) (records : List RecordShown) (t : DeathTold)
+    → foreign_of (death_parts signature records t) ≡ death_bytes signature records t
+of-death signature records t =
+    simp (both, of-when, of-up, of-fact, of-bytes, of-before, of-around, append-nil)
 
-of-died : (records : List RecordShown) (t : Option DeathTold)
-    → foreign_of (died_parts records t) ≡ died_bytes records t
-of-died records None = refl
-of-died records (Some t) = of-death records t
+of-ending : (t : Option EndTold) → foreign_of (end_parts t) ≡ end_bytes t
+of-ending None = refl
+of-ending (Some t) = simp (both, of-when, of-up, of-bytes, append-nil)
+
+of-died : (signature : List ℕ) (records : List RecordShown) (t : Option DeathTold)
+    → foreign_of (died_parts signature records t) ≡ died_bytes signature records t
+of-died signature records None = of-ending (end_told records)
+of-died signature records (Some t) = of-death signature records t
 
 -- ---- warnings have none
 
@@ -331,37 +355,57 @@ of-causes crashes = by (nat_lt 1 (length crashes))
     by true = of-table crashes
     by false = refl
 
--- ---- the page has its title, those parts, and what people read of its records
+-- ---- the page has its name and title, those parts, and what people read of its records
 
-of-page : (title : List ℕ) (p : Params) (zones : List Zone) (report : ReportHeld) (told : Option DeathTold)
-    → foreign_of (page_with title p zones report told)
-    ≡ title ∷ why_bytes told ++ died_bytes report.records told ++ causes_bytes report.records
-    ++ flat_map record_bytes report.records
-of-page title p zones report told =
-    let head : List Part = heading_parts title in
-    let why : List Part = why_parts told in
+of-named : (signature : List ℕ) (records : List RecordShown) (told : Option DeathTold)
+    → foreign_of (named_parts signature records told) ≡ name_bytes signature told
+of-named signature records None = refl
+of-named signature records (Some t) = refl
+
+-- the name of the page and its heading, and why the machine died
+of-opening : (title signature : List ℕ) (records : List RecordShown) (told : Option DeathTold)
+    → foreign_of (heading_parts title (named_parts signature records told) ++ why_parts records told)
+    ≡ title ∷ name_bytes signature told ++ title ∷ why_bytes told
+of-opening title signature records told =
+    let front : List Part = Words HEAD.now ∷ Bytes title ∷ Words (codes ": ") ∷ named_parts signature records told in
+    let back : List Part = Words (codes "</title>\n<style>\n") ∷ Words STYLE.now
+    ∷ Words (codes "</style>\n</head>\n<body>\n<header>\n<h1>Why this machine died: ") ∷ Bytes title
+    ∷ Words NAVIGATION.now ∷ [] in
+    let n : List (List ℕ) = title ∷ name_bytes signature told in
+    and-of (front ++ back) (why_parts records told) (n ++ title ∷ []) (why_bytes told)
+    (and-of front back n (title ∷ [])
+    (ap (λ (bs : List (List ℕ)). title ∷ bs) (of-named signature records told)) refl)
+    (of-why records told)
+    ∙ append_assoc n (title ∷ []) (why_bytes told)
+
+of-page : (title : List ℕ) (p : Params) (zones : List Zone) (report : ReportHeld) (signature : List ℕ)
+    (told : Option DeathTold) → foreign_of (page_with title p zones report signature told)
+    ≡ foreign_by title signature report.records told
+of-page title p zones report signature told =
+    let opening : List Part = heading_parts title (named_parts signature report.records told)
+    ++ why_parts report.records told in
     let warned : List Part = warnings_parts report told in
-    let died : List Part = died_parts report.records told in
+    let died : List Part = died_parts signature report.records told in
     let opened : List Part = records_opening (length report.records) in
     let causes : List Part = causes_parts report.records in
     let records : List Part = list_parts zones report told in
     let drawn : List Part = picture zones report in
-    let w : List (List ℕ) = why_bytes told in
-    let d : List (List ℕ) = died_bytes report.records told in
+    let w : List (List ℕ) = title ∷ name_bytes signature told ++ title ∷ why_bytes told in
+    let d : List (List ℕ) = died_bytes signature report.records told in
     let l : List (List ℕ) = causes_bytes report.records in
     let m : List (List ℕ) = flat_map record_bytes report.records in
     let number : Option ℕ = unfolded (newest report.records) told in
-    and-none (head ++ why ++ warned ++ died ++ opened ++ causes ++ records ++ drawn ++ parameters_parts p)
-    (Words END.now ∷ []) (title ∷ w ++ d ++ l ++ m)
-    (and-none (head ++ why ++ warned ++ died ++ opened ++ causes ++ records ++ drawn) (parameters_parts p)
-    (title ∷ w ++ d ++ l ++ m)
-    (and-none (head ++ why ++ warned ++ died ++ opened ++ causes ++ records) drawn (title ∷ w ++ d ++ l ++ m)
-    (and-of (head ++ why ++ warned ++ died ++ opened ++ causes) records (title ∷ w ++ d ++ l) m
-    (and-of (head ++ why ++ warned ++ died ++ opened) causes (title ∷ w ++ d) l
-    (and-none (head ++ why ++ warned ++ died) opened (title ∷ w ++ d)
-    (and-of (head ++ why ++ warned) died (title ∷ w) d
-    (and-none (head ++ why) warned (title ∷ w) (and-of head why (title ∷ []) w refl (of-why told))
-    (of-warnings report told)) (of-died report.records told)) refl) (of-causes (crashes_of report.records)))
+    and-none (opening ++ warned ++ died ++ opened ++ causes ++ records ++ drawn ++ parameters_parts p)
+    (Words END.now ∷ []) (w ++ d ++ l ++ m)
+    (and-none (opening ++ warned ++ died ++ opened ++ causes ++ records ++ drawn) (parameters_parts p)
+    (w ++ d ++ l ++ m)
+    (and-none (opening ++ warned ++ died ++ opened ++ causes ++ records) drawn (w ++ d ++ l ++ m)
+    (and-of (opening ++ warned ++ died ++ opened ++ causes) records (w ++ d ++ l) m
+    (and-of (opening ++ warned ++ died ++ opened) causes (w ++ d) l
+    (and-none (opening ++ warned ++ died) opened (w ++ d)
+    (and-of (opening ++ warned) died w d
+    (and-none opening warned w (of-opening title signature report.records told)
+    (of-warnings report told)) (of-died signature report.records told)) refl) (of-causes (crashes_of report.records)))
     (of-records (saved report.logs) (are_grouped zones) number None report.records)) (of-picture zones report)) refl)
     refl
 
@@ -414,38 +458,98 @@ joins-context : (text : List ℕ) (d : Death) → AreBytes text → Joins (conte
 joins-context text d h =
     let b : Option Span → List (List ℕ) = named_bytes text in
     let j : (span : Option Span) → Joins (named_bytes text span) = λ span. joins-named text span h in
-    joins-and (b (stamp_of d.telling) ++ b d.cpu ++ b d.task ++ b d.kernel) (b d.function)
-    (joins-and (b (stamp_of d.telling) ++ b d.cpu ++ b d.task) (b d.kernel)
-    (joins-and (b (stamp_of d.telling) ++ b d.cpu) (b d.task)
-    (joins-and (b (stamp_of d.telling)) (b d.cpu) (j (stamp_of d.telling)) (j d.cpu)) (j d.task)) (j d.kernel))
+    joins-and (b d.cpu ++ b d.task ++ b d.kernel) (b d.function)
+    (joins-and (b d.cpu ++ b d.task) (b d.kernel) (joins-and (b d.cpu) (b d.task) (j d.cpu) (j d.task)) (j d.kernel))
     (j d.function)
+
+joins-some : (bytes : List ℕ) → AreBytes bytes → Joins (some_bytes bytes)
+joins-some [] h = joins-none
+joins-some (b ∷ bs) h more all = onto (b ∷ bs) more (is-text (b ∷ bs) h) all
+
+-- the stamp of a line is a part of its text
+stamp-bytes : (text : List ℕ) (line : Line) → AreBytes text → AreBytes (uptime_of text line)
+stamp-bytes text line h = by (nat_lt line.stamp line.caller)
+  where
+    from : ℕ
+    from = line.stamp + 1
+
+    inner : List ℕ
+    inner = part text from (line.caller - 1)
+
+    by : (t : Bool) → AreBytes (if t then trimmed inner else [])
+    by true =
+        AreBytes-drop (prefix_len is_ascii_whitespace inner) inner
+        (AreBytes-take (line.caller - 1 - from) (drop from text) (AreBytes-drop from text h))
+    by false = λ i. arith
+
+joins-machine : (m : MachineTold) → AreMachineBytes m → Joins (machine_bytes m)
+joins-machine m h =
+    joins-and (some_bytes m.hardware ++ some_bytes m.modules ++ some_bytes m.version) (some_bytes m.cmdline)
+    (joins-and (some_bytes m.hardware ++ some_bytes m.modules) (some_bytes m.version)
+    (joins-and (some_bytes m.hardware) (some_bytes m.modules) (joins-some m.hardware h.hardware)
+    (joins-some m.modules h.modules)) (joins-some m.version h.version)) (joins-some m.cmdline h.cmdline)
 
 joins-before : (before : Option DeathTold) → TellsBytes before → Joins (before_bytes before)
 joins-before None h = joins-none
 joins-before (Some t) h =
     joins-with (readable t.teller) t.death.telling.text t.death.telling.end [] h joins-none
 
-joins-death : (text : List ℕ) (d : Death) (before : Option DeathTold) → AreBytes text → TellsBytes before
-    → Joins (death_bytes text d before)
-joins-death text d before h g =
+joins-around : (text : List ℕ) (d : Death) → AreBytes text → Joins (around_bytes text d)
+joins-around text d h =
     let rest : List (List ℕ) = rest_bytes text d.telling.next d.second in
-    joins-and (context_bytes text d ++ before_bytes before) (around_bytes text d)
-    (joins-and (context_bytes text d) (before_bytes before) (joins-context text d h) (joins-before before g))
-    (joins-with text (place_above text d.telling.start 8) d.telling.start
+    joins-with text (place_above text d.telling.start 8) d.telling.start
     (part text d.telling.start d.telling.next ∷ rest) h
-    (joins-with text d.telling.start d.telling.next rest h (joins-rest text d.telling.next d.second h)))
+    (joins-with text d.telling.start d.telling.next rest h (joins-rest text d.telling.next d.second h))
 
-joins-why : (records : List RecordShown) (t : Option DeathTold) → AllTellBytes records t → Joins (why_bytes t)
-joins-why records None h = joins-none
-joins-why records (Some t) h =
+joins-death : (signature : List ℕ) (records : List RecordShown) (t : DeathTold) → AreDeathBytes signature records t
+    → Joins (death_bytes signature records t)
+joins-death signature records t h =
     let text : List ℕ = readable t.teller in
-    joins-with text t.death.telling.text t.death.telling.end (second_bytes text t.death.second) h.0
-    (joins-second text t.death.second h.0)
+    let u : List (List ℕ) = some_bytes (uptime_of text t.death.telling) in
+    let c : List (List ℕ) = context_bytes text t.death in
+    let s : List (List ℕ) = some_bytes signature in
+    let m : List (List ℕ) = machine_bytes (machine_of t (console_of records)) in
+    let b : List (List ℕ) = before_bytes (told_before t.teller.name records) in
+    joins-and (u ++ c ++ s ++ m ++ b) (around_bytes text t.death)
+    (joins-and (u ++ c ++ s ++ m) b
+    (joins-and (u ++ c ++ s) m
+    (joins-and (u ++ c) s
+    (joins-and u c (joins-some (uptime_of text t.death.telling) (stamp-bytes text t.death.telling h.text))
+    (joins-context text t.death h.text)) (joins-some signature h.signed))
+    (joins-machine (machine_of t (console_of records)) h.machine))
+    (joins-before (told_before t.teller.name records) h.before)) (joins-around text t.death h.text)
 
-joins-died : (records : List RecordShown) (t : Option DeathTold) → AllTellBytes records t
-    → Joins (died_bytes records t)
-joins-died records None h = joins-none
-joins-died records (Some t) h = joins-death (readable t.teller) t.death (told_before t.teller.name records) h.0 h.1
+joins-ending : (t : Option EndTold) → EndsBytes t → Joins (end_bytes t)
+joins-ending None h = joins-none
+joins-ending (Some t) h =
+    let text : List ℕ = readable t.teller in
+    let u : List (List ℕ) = some_bytes (uptime_of text t.ended.line) in
+    let l : List (List ℕ) = part text t.ended.line.text t.ended.line.end ∷ [] in
+    joins-and (u ++ l) (machine_bytes (machine_ended t))
+    (joins-and u l (joins-some (uptime_of text t.ended.line) (stamp-bytes text t.ended.line h.text))
+    (joins-with text t.ended.line.text t.ended.line.end [] h.text joins-none))
+    (joins-machine (machine_ended t) h.machine)
+
+joins-why : (signature : List ℕ) (records : List RecordShown) (t : Option DeathTold)
+    → AllTellBytes signature records t → Joins (why_bytes t)
+joins-why signature records None h = joins-none
+joins-why signature records (Some t) h =
+    let text : List ℕ = readable t.teller in
+    joins-with text t.death.telling.text t.death.telling.end (second_bytes text t.death.second) h.text
+    (joins-second text t.death.second h.text)
+
+joins-died : (signature : List ℕ) (records : List RecordShown) (t : Option DeathTold)
+    → AllTellBytes signature records t → Joins (died_bytes signature records t)
+joins-died signature records None h = joins-ending (end_told records) h
+joins-died signature records (Some t) h = joins-death signature records t h
+
+joins-onto : (bytes : List ℕ) (all : List (List ℕ)) → AreBytes bytes → Joins all → Joins (bytes ∷ all)
+joins-onto bytes all h f more rest = onto bytes (all ++ more) (is-text bytes h) (f more rest)
+
+joins-name : (signature : List ℕ) (records : List RecordShown) (t : Option DeathTold)
+    → AllTellBytes signature records t → Joins (name_bytes signature t)
+joins-name signature records None h = joins-none
+joins-name signature records (Some t) h = joins-onto signature [] h.signed joins-none
 
 joins-whole : (text : List ℕ) → AreBytes text → Joins (text ∷ [])
 joins-whole text h more all = onto text more (is-text text h) all
@@ -544,23 +648,29 @@ joins-causes records h = by (nat_lt 1 (length (crashes_of records)))
     by false = joins-none
 
 pub without_markup : (title : List ℕ) (p : Params) (zones : List Zone) (report : ReportHeld) (page : List ℕ)
-    → AreBytes title → HoldBytes report.records → AllTellBytes report.records (death_told report.records)
+    → AreBytes title → HoldBytes report.records
+    → AllTellBytes (signature_told (death_told report.records)) report.records (death_told report.records)
     → page ≡ parts_text (page_parts title p zones report) → IsWithoutMarkup title report.records page
 without_markup title p zones report page bytes hold tells is =
-    let records = flat_map record_bytes report.records in
-    let lines = causes_bytes report.records in
-    let told = death_told report.records in
-    let died = died_bytes report.records told in
-    let foreign = of-page title p zones report told in
+    let told : Option DeathTold = death_told report.records in
+    let signature : List ℕ = signature_told told in
+    let n : List (List ℕ) = title ∷ name_bytes signature told in
+    let w : List (List ℕ) = title ∷ why_bytes told in
+    let d : List (List ℕ) = died_bytes signature report.records told in
+    let l : List (List ℕ) = causes_bytes report.records in
+    let foreign = of-page title p zones report signature told in
     record {
       parts = page_parts title p zones report;
       page_is = is;
       foreign = foreign;
       texts = subst EscapeToTexts (sym foreign)
-          (onto title (why_bytes told ++ died ++ lines ++ records) (is-text title bytes)
-          (joins-and (why_bytes told ++ died) lines
-          (joins-and (why_bytes told) died (joins-why report.records told tells) (joins-died report.records told tells))
-          (joins-causes report.records hold) records (texts-of report.records hold)));
+          (joins-and (n ++ w ++ d) l
+          (joins-and (n ++ w) d
+          (joins-and n w
+          (joins-onto title (name_bytes signature told) bytes (joins-name signature report.records told tells))
+          (joins-onto title (why_bytes told) bytes (joins-why signature report.records told tells)))
+          (joins-died signature report.records told tells)) (joins-causes report.records hold)
+          (flat_map record_bytes report.records) (texts-of report.records hold));
     }
 
 -- ---- what people read of records are bytes

@@ -1,18 +1,20 @@
 -- Why the machine died: the line that tells it, what is known of it, and the lines around it
-use Rattle.std.specs.Prelude.{ℕ, zero, suc, ◌+◌, ◌-◌, ◌==◌, Bool, true, false, ◌&&◌, nat_lt, min, if◌then◌else◌, List}
-use Rattle.std.specs.Prelude.{[], ◌∷◌, ◌++◌, length, slice_index, codes, Option, Some, None}
+use Rattle.std.specs.Prelude.{ℕ, Bool, true, false, if◌then◌else◌, List, [], ◌∷◌, ◌++◌, codes, Option, Some, None}
 use Rattle.zone_spec.specs.declared.Name.{Name}
-use Rattle.zone_spec.specs.declared.Time.{Time}
 use Rattle.death_spec.specs.declared.Line.{Line}
 use Rattle.death_spec.specs.declared.Span.{Span}
 use Rattle.death_spec.specs.declared.Death.{Death}
-use Rattle.death_spec.specs.Lines.{part, lines_from}
+use Rattle.death_spec.specs.Lines.{part}
 use Rattle.report_spec.specs.Packed.{RecordShown, readable}
 use Rattle.report_spec.specs.Newest.{is_console, console_of}
 use Rattle.report_spec.specs.Deaths.{DeathTold, stamped, has_line}
+use Rattle.report_spec.specs.Ends.{end_told}
+use Rattle.report_spec.specs.Facts.{uptime_of, machine_of}
 use Rattle.report_spec.specs.Excerpts.{place_above, below}
 use Rattle.report_html.specs.declared.words.TheConstants.{NO_CPU, NO_FUNCTION, TOLD}
-use Rattle.report_html.specs.Pieces.{Part, Words, Bytes, Moment, Log, Named, Link}
+use Rattle.report_html.specs.Pieces.{Part, Words, Bytes, Log, Named, Link}
+use Rattle.report_html.specs.Facts.{when_parts, up_parts, bytes_parts, machine_parts, some_bytes, machine_bytes}
+use Rattle.report_html.specs.Ended.{ended_parts, end_parts, end_bytes}
 use Rattle.report_html.specs.Before.{told_before, before_parts, before_bytes}
 
 -- ---- the line
@@ -27,10 +29,10 @@ said_parts text d =
     Words (codes "<pre class=\"why\">") ∷ Bytes (part text d.telling.text d.telling.end)
     ∷ second_parts text d.second ++ Words (codes "</pre>\n") ∷ []
 
--- what a record tells, or that none tells
-abbrev pub why_parts : Option DeathTold → List Part
-why_parts None = Words (codes "<pre class=\"why\">No record tells why.</pre>\n") ∷ []
-why_parts (Some t) = said_parts (readable t.teller) t.death
+-- what a record tells; or how the log ends, if none tells of a death
+abbrev pub why_parts : List RecordShown → Option DeathTold → List Part
+why_parts records None = ended_parts (end_told records)
+why_parts records (Some t) = said_parts (readable t.teller) t.death
 
 -- ---- what is known of it
 
@@ -41,24 +43,10 @@ fact_parts label missing text (Some span) =
     Words (codes "<tr><th scope=\"row\">") ∷ Words label ∷ Words (codes "</th><td>")
     ∷ Bytes (part text span.start span.end) ∷ Words (codes "</td></tr>\n") ∷ []
 
--- the stamp of a line without its brackets, if it has one
-abbrev pub stamp_of : Line → Option Span
-stamp_of line =
-    if nat_lt line.stamp line.caller then Some (record { start = line.stamp + 1; end = line.caller - 1 }) else None
-
--- the head of the table, and the time of the record that tells
-abbrev pub when_parts : Option Time → List Part
-when_parts None =
-    Words (codes "<table class=\"fact\">\n<tr><th scope=\"row\">When</th><td>no date</td></tr>\n") ∷ []
-when_parts (Some time) =
-    Words (codes "<table class=\"fact\">\n<tr><th scope=\"row\">When</th><td><b>") ∷ Moment time
-    ∷ Words (codes "</b></td></tr>\n") ∷ []
-
 -- what the report below the line names
 abbrev pub context_parts : List ℕ → Death → List Part
 context_parts text d =
-    fact_parts (codes "Seconds after boot") [] text (stamp_of d.telling)
-    ++ fact_parts (codes "CPU") NO_CPU.now text d.cpu ++ fact_parts (codes "Task") [] text d.task
+    fact_parts (codes "CPU") NO_CPU.now text d.cpu ++ fact_parts (codes "Task") [] text d.task
     ++ fact_parts (codes "Kernel") [] text d.kernel
     ++ fact_parts (codes "Function") NO_FUNCTION.now text d.function
 
@@ -103,18 +91,19 @@ teller_parts name words =
     Words (codes "<tr><th scope=\"row\">Told by</th><td>") ∷ Link name ∷ Words words ∷ Words TOLD.now
     ∷ Named name ∷ Words (codes "</h2>\n<pre class=\"log\">\n") ∷ []
 
--- when, what is known, what was before it, by which record, and the lines
-abbrev pub death_parts : List RecordShown → DeathTold → List Part
-death_parts records t =
-    when_parts t.teller.time ++ context_parts (readable t.teller) t.death
-    ++ before_parts (told_before t.teller.name records)
+-- when, what is known, its signature, the machine, what was before it, by which record, and the lines
+abbrev pub death_parts : List ℕ → List RecordShown → DeathTold → List Part
+death_parts signature records t =
+    when_parts t.teller.time ++ up_parts (uptime_of (readable t.teller) t.death.telling)
+    ++ context_parts (readable t.teller) t.death ++ bytes_parts (codes "Signature") signature
+    ++ machine_parts (machine_of t (console_of records)) ++ before_parts (told_before t.teller.name records)
     ++ teller_parts t.teller.name (console_words t (console_of records))
     ++ around_parts (readable t.teller) t.death ++ Words (codes "</pre>\n") ∷ []
 
--- of the records, by the one that tells
-abbrev pub died_parts : List RecordShown → Option DeathTold → List Part
-died_parts records None = Words (codes "</header>\n<main>\n") ∷ []
-died_parts records (Some t) = death_parts records t
+-- of the records, by the one that tells; or by the one whose end is told
+abbrev pub died_parts : List ℕ → List RecordShown → Option DeathTold → List Part
+died_parts signature records None = end_parts (end_told records)
+died_parts signature records (Some t) = death_parts signature records t
 
 -- ---- what of it comes from the image
 
@@ -131,8 +120,7 @@ said_bytes text d = part text d.telling.text d.telling.end ∷ second_bytes text
 
 abbrev pub context_bytes : List ℕ → Death → List (List ℕ)
 context_bytes text d =
-    named_bytes text (stamp_of d.telling) ++ named_bytes text d.cpu ++ named_bytes text d.task
-    ++ named_bytes text d.kernel ++ named_bytes text d.function
+    named_bytes text d.cpu ++ named_bytes text d.task ++ named_bytes text d.kernel ++ named_bytes text d.function
 
 abbrev pub rest_bytes : List ℕ → ℕ → Option Line → List (List ℕ)
 rest_bytes text at None = part text at (below text at 16) ∷ []
@@ -148,9 +136,12 @@ abbrev pub why_bytes : Option DeathTold → List (List ℕ)
 why_bytes None = []
 why_bytes (Some t) = said_bytes (readable t.teller) t.death
 
-abbrev pub death_bytes : List ℕ → Death → Option DeathTold → List (List ℕ)
-death_bytes text d before = context_bytes text d ++ before_bytes before ++ around_bytes text d
+abbrev pub death_bytes : List ℕ → List RecordShown → DeathTold → List (List ℕ)
+death_bytes signature records t =
+    some_bytes (uptime_of (readable t.teller) t.death.telling) ++ context_bytes (readable t.teller) t.death
+    ++ some_bytes signature ++ machine_bytes (machine_of t (console_of records))
+    ++ before_bytes (told_before t.teller.name records) ++ around_bytes (readable t.teller) t.death
 
-abbrev pub died_bytes : List RecordShown → Option DeathTold → List (List ℕ)
-died_bytes records None = []
-died_bytes records (Some t) = death_bytes (readable t.teller) t.death (told_before t.teller.name records)
+abbrev pub died_bytes : List ℕ → List RecordShown → Option DeathTold → List (List ℕ)
+died_bytes signature records None = end_bytes (end_told records)
+died_bytes signature records (Some t) = death_bytes signature records t

@@ -3,18 +3,23 @@ use Rattle.std.specs.Prelude.{◌≡◌, ℕ, List, [], ◌∷◌, flat_map, ◌
 use Rattle.zone_spec.specs.Parts.{AreBytes}
 use Rattle.report_spec.specs.Escaped.{escaped, IsText}
 use Rattle.report_spec.specs.Packed.{RecordShown, readable}
+use Rattle.report_spec.specs.Newest.{console_of}
 use Rattle.report_spec.specs.Deaths.{DeathTold, death_told}
+use Rattle.report_spec.specs.Ends.{EndTold, end_told}
+use Rattle.report_spec.specs.Facts.{MachineTold, machine_of, machine_ended, signature_told}
 use Rattle.report_html.specs.Before.{told_before}
 use Rattle.report_html.specs.Died.{why_bytes, died_bytes}
 use Rattle.report_html.specs.Causes.{causes_bytes}
 use Rattle.report_html.specs.Listed.{record_bytes}
-use Rattle.report_html.specs.Pieces.{Part, Words, Count, Bytes, Moment, Log, Named, Link, parts_text}
+use Rattle.report_html.specs.Pages.{name_bytes}
+use Rattle.report_html.specs.Pieces.{Part, Words, Count, Bytes, Moment, Long, Log, Named, Link, parts_text}
 
 abbrev pub foreign_in : Part → List (List ℕ)
 foreign_in (Words text) = []
 foreign_in (Count n) = []
 foreign_in (Bytes bytes) = bytes ∷ []
 foreign_in (Moment time) = []
+foreign_in (Long seconds) = []
 foreign_in (Log text) = text ∷ []
 foreign_in (Named name) = []
 foreign_in (Link name) = []
@@ -32,18 +37,48 @@ abbrev pub TellsBytes : Option DeathTold → Type 0
 TellsBytes None = ⊤
 TellsBytes (Some t) = AreBytes (readable t.teller)
 
--- and what people read of the one before it
-abbrev pub AllTellBytes : List RecordShown → Option DeathTold → Type 0
-AllTellBytes records None = ⊤
-AllTellBytes records (Some t) = AreBytes (readable t.teller) × TellsBytes (told_before t.teller.name records)
+-- what is said of the machine are bytes
+pub record AreMachineBytes (m : MachineTold) : Type 0 where
+  pub hardware : AreBytes m.hardware
+  pub modules : AreBytes m.modules
+  pub version : AreBytes m.version
+  pub cmdline : AreBytes m.cmdline
 
--- a page whose foreign bytes are its title, parts of the texts that tell why the machine died and what was before it,
--- the telling lines of dumps, and of each record, in order, parts of the line above it and what people read of it,
--- each escaped to text without markup. All else are the page's own words and numbers
+-- all that is shown of a log's end are bytes
+pub record AreEndBytes (t : EndTold) : Type 0 where
+  pub text : AreBytes (readable t.teller)
+  pub machine : AreMachineBytes (machine_ended t)
+
+abbrev pub EndsBytes : Option EndTold → Type 0
+EndsBytes None = ⊤
+EndsBytes (Some t) = AreEndBytes t
+
+-- all that is shown of a death are bytes
+pub record AreDeathBytes (signature : List ℕ) (records : List RecordShown) (t : DeathTold) : Type 0 where
+  pub text : AreBytes (readable t.teller)
+  pub signed : AreBytes signature
+  pub machine : AreMachineBytes (machine_of t (console_of records))
+  pub before : TellsBytes (told_before t.teller.name records)
+
+abbrev pub AllTellBytes : List ℕ → List RecordShown → Option DeathTold → Type 0
+AllTellBytes signature records None = EndsBytes (end_told records)
+AllTellBytes signature records (Some t) = AreDeathBytes signature records t
+
+-- what comes from elsewhere: the title and the signature, which name the page, the title, parts of the texts that tell
+-- why the machine died and what was before it, the telling lines of dumps, and of each record, in order, parts of the
+-- line above it and what people read of it
+abbrev pub foreign_by : List ℕ → List ℕ → List RecordShown → Option DeathTold → List (List ℕ)
+foreign_by title signature records told =
+    title ∷ name_bytes signature told ++ title ∷ why_bytes told ++ died_bytes signature records told
+    ++ causes_bytes records ++ flat_map record_bytes records
+
+abbrev pub foreign_told : List ℕ → List RecordShown → Option DeathTold → List (List ℕ)
+foreign_told title records told = foreign_by title (signature_told told) records told
+
+-- a page whose foreign bytes are those, each escaped to text without markup. All else are the page's own words and
+-- numbers
 pub record IsWithoutMarkup (title : List ℕ) (records : List RecordShown) (page : List ℕ) : Type 0 where
   pub parts : List Part
   pub page_is : page ≡ parts_text parts
-  pub foreign : foreign_of parts
-      ≡ title ∷ why_bytes (death_told records) ++ died_bytes records (death_told records) ++ causes_bytes records
-      ++ flat_map record_bytes records
+  pub foreign : foreign_of parts ≡ foreign_told title records (death_told records)
   pub texts : All (λ (bytes : List ℕ). IsText (escaped bytes)) (foreign_of parts)

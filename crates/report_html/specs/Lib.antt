@@ -4,6 +4,8 @@ pub mod Pictures
 pub mod Covers
 pub mod Spots
 pub mod Regions
+pub mod Facts
+pub mod Ended
 pub mod Before
 pub mod Died
 pub mod Warnings

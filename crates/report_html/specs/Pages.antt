@@ -11,10 +11,13 @@ use Rattle.report_spec.specs.declared.Packing.TheVariants.{Plain, Whole, Part as
 use Rattle.report_spec.specs.Packed.{RecordShown, fault_words, readable}
 use Rattle.report_spec.specs.Newest.{newest}
 use Rattle.report_spec.specs.Deaths.{DeathTold, death_told}
+use Rattle.report_spec.specs.Ends.{end_told}
+use Rattle.report_spec.specs.Facts.{signature_told}
 use Rattle.region_report.specs.Reports.{ReportHeld}
 use Rattle.report_html.specs.declared.style.TheConstants.{STYLE}
 use Rattle.report_html.specs.declared.words.TheConstants.{HEAD, NAVIGATION, LEVELS, END}
 use Rattle.report_html.specs.Pieces.{Part, Words, Count, Bytes, Moment, Log, Named, parts_text}
+use Rattle.report_html.specs.Ended.{words_of}
 use Rattle.report_html.specs.Died.{why_parts, died_parts}
 use Rattle.report_html.specs.Warnings.{warnings_parts}
 use Rattle.report_html.specs.Reads.{read_parts}
@@ -73,23 +76,36 @@ abbrev pub records_opening : ℕ → List Part
 records_opening count =
     Words (codes "<h2 id=\"records\">Records: ") ∷ Count count ∷ Words LEVELS.now ∷ []
 
--- a head with the style sheet, and the title
-abbrev pub heading_parts : List ℕ → List Part
-heading_parts title =
-    Words HEAD.now ∷ Words STYLE.now
+-- what a page is named by beside its title: the signature, or how the log ends
+abbrev pub named_parts : List ℕ → List RecordShown → Option DeathTold → List Part
+named_parts signature records None = Words (words_of (end_told records)) ∷ []
+named_parts signature records (Some t) = Bytes signature ∷ []
+
+abbrev pub name_bytes : List ℕ → Option DeathTold → List (List ℕ)
+name_bytes signature None = []
+name_bytes signature (Some t) = signature ∷ []
+
+-- a head with the page's name and the style sheet, and the title
+abbrev pub heading_parts : List ℕ → List Part → List Part
+heading_parts title named =
+    Words HEAD.now ∷ Bytes title ∷ Words (codes ": ") ∷ named ++ Words (codes "</title>\n<style>\n") ∷ Words STYLE.now
     ∷ Words (codes "</style>\n</head>\n<body>\n<header>\n<h1>Why this machine died: ") ∷ Bytes title
     ∷ Words NAVIGATION.now ∷ []
 
 -- the heading, why the machine died, the dumps by telling line, the records, the picture of the zones, and the
 -- parameters
-abbrev pub page_with : List ℕ → Params → List Zone → ReportHeld → Option DeathTold → List Part
-page_with title params zones report told =
-    heading_parts title ++ why_parts told ++ warnings_parts report told ++ died_parts report.records told
+abbrev pub page_with : List ℕ → Params → List Zone → ReportHeld → List ℕ → Option DeathTold → List Part
+page_with title params zones report signature told =
+    heading_parts title (named_parts signature report.records told) ++ why_parts report.records told
+    ++ warnings_parts report told ++ died_parts signature report.records told
     ++ records_opening (length report.records) ++ causes_parts report.records ++ list_parts zones report told
     ++ picture zones report ++ parameters_parts params ++ Words END.now ∷ []
 
+abbrev pub page_by : List ℕ → Params → List Zone → ReportHeld → Option DeathTold → List Part
+page_by title params zones report told = page_with title params zones report (signature_told told) told
+
 abbrev pub page_parts : List ℕ → Params → List Zone → ReportHeld → List Part
-page_parts title params zones report = page_with title params zones report (death_told report.records)
+page_parts title params zones report = page_by title params zones report (death_told report.records)
 
 -- the page under this title of the report of these parameters and their zones
 unfoldable pub page_of : List ℕ → Params → List Zone → ReportHeld → List ℕ

@@ -1,26 +1,29 @@
 // Why the machine died: the line that tells it, what is known of it, and the lines around it.
 ghost use Rattle.std.specs.Prelude.{◌≡◌, ◌++◌, OnOk};
 ghost use Rattle.zone_spec.specs.Parts.{AreBytes};
-ghost use Rattle.report_spec.specs.Packed.{readable};
 ghost use Rattle.std.specs.Option.{option_copied};
 ghost use Rattle.region_report.specs.Tellers.{as_told, told_in};
 ghost use Rattle.report_html.specs.Pieces.{parts};
-ghost use Rattle.report_html.specs.Died.{second_parts, said_parts, why_parts, fact_parts, stamp_of as stamp_span};
-ghost use Rattle.report_html.specs.Died.{when_parts, context_parts, log_parts};
+ghost use Rattle.report_html.specs.Died.{second_parts, said_parts, why_parts, fact_parts};
+ghost use Rattle.report_html.specs.Died.{context_parts, log_parts};
 ghost use Rattle.report_html.specs.Died.{marked_parts, rest_parts, around_parts, shared_words, console_words};
 ghost use Rattle.report_html.specs.Died.{teller_parts, death_parts, died_parts};
-ghost use Rattle.report_html.specs.Before.{told_before};
-ghost use Rattle.report_html.specs.Escaping.{TellsBytes, AllTellBytes};
+ghost use Rattle.report_html.specs.Escaping.{AreDeathBytes, AllTellBytes};
 
 use crate::before::add_before;
+use crate::ended::{add_end, add_ended};
+use crate::facts::{add_bytes, add_machine, add_up, add_when};
 use crate::listed::is_console;
 use crate::pieces::{Piece, add};
 use crate::words::{NO_CPU, NO_FUNCTION, TOLD};
 use death::part;
 use death_spec::{Death, Line, Span};
-use region_report::{RecordReport, Telling, below, console, has_telling_line, place_above};
+use region_report::{
+    RecordReport, Telling, below, console, end_told, has_telling_line, machine_told, place_above,
+    uptime,
+};
 use std::alloc::AllocError;
-use zone_spec::{Name, Time};
+use zone_spec::Name;
 
 /// The lines that are shown above the telling line.
 const ABOVE: usize = 8;
@@ -63,19 +66,21 @@ fn add_said<'a>(pieces: &mut Vec<Piece<'a>>, text: &'a [u8], death: Death) -> Re
     Ok(())
 }
 
-/// Adds what a record tells, or that none tells.
-pub fn add_why<'a>(pieces: &mut Vec<Piece<'a>>, told: Option<Telling<'a>>) -> Result<(), AllocError>
-    ensures { OnOk result (parts pieces.new.items ≡ parts pieces.old.items ++ why_parts (told_in told.entry)) }
+/// Adds what a record tells, or how the log ends.
+pub fn add_why<'a>(
+    pieces: &mut Vec<Piece<'a>>,
+    records: &[RecordReport],
+    told: Option<Telling<'a>>,
+) -> Result<(), AllocError>
+    ensures { OnOk result (parts pieces.new.items
+        ≡ parts pieces.old.items ++ why_parts records.now (told_in told.entry)) }
 {
     match told {
         Some(told) => {
             let teller: &'a RecordReport = told.teller;
             add_said(pieces, teller.readable(), told.death)
         }
-        None => add(
-            pieces,
-            &[Piece::Own("<pre class=\"why\">No record tells why.</pre>\n")],
-        ),
+        None => add_ended(pieces, end_told(records)),
     }
 }
 
@@ -105,41 +110,6 @@ fn add_fact<'a>(
     }
 }
 
-/// The stamp of a line without its brackets.
-fn stamp_of(line: Line) -> Option<Span>
-    ensures { result ≡ stamp_span line }
-{
-    if line.stamp < line.caller {
-        Some(Span {
-            start: line.stamp + 1,
-            end: line.caller - 1,
-        })
-    } else {
-        None
-    }
-}
-
-fn add_when(pieces: &mut Vec<Piece<'_>>, time: Option<Time>) -> Result<(), AllocError>
-    ensures { OnOk result (parts pieces.new.items ≡ parts pieces.old.items ++ when_parts time) }
-{
-    match time {
-        Some(time) => add(
-            pieces,
-            &[
-                Piece::Own("<table class=\"fact\">\n<tr><th scope=\"row\">When</th><td><b>"),
-                Piece::Moment(time),
-                Piece::Own("</b></td></tr>\n"),
-            ],
-        ),
-        None => add(
-            pieces,
-            &[Piece::Own(
-                "<table class=\"fact\">\n<tr><th scope=\"row\">When</th><td>no date</td></tr>\n",
-            )],
-        ),
-    }
-}
-
 /// Adds what the report below the telling line names.
 fn add_context<'a>(
     pieces: &mut Vec<Piece<'a>>,
@@ -148,13 +118,6 @@ fn add_context<'a>(
 ) -> Result<(), AllocError>
     ensures { OnOk result (parts pieces.new.items ≡ parts pieces.old.items ++ context_parts text.entry.now death) }
 {
-    add_fact(
-        pieces,
-        "Seconds after boot",
-        "",
-        text,
-        stamp_of(death.telling),
-    )?;
     add_fact(pieces, "CPU", NO_CPU, text, death.cpu)?;
     add_fact(pieces, "Task", "", text, death.task)?;
     add_fact(pieces, "Kernel", "", text, death.kernel)?;
@@ -270,18 +233,21 @@ fn add_teller(
 
 fn add_death<'a>(
     pieces: &mut Vec<Piece<'a>>,
+    signature: &'a [u8],
     told: &Telling<'a>,
     records: &'a [RecordReport],
 ) -> Result<(), AllocError>
-    ensures bytes { OnOk result (AreBytes (readable told.now.teller.now)) }
-    ensures before { OnOk result (TellsBytes (told_before told.now.teller.now.name records.entry.now)) }
+    ensures bytes { OnOk result (AreDeathBytes signature.entry.now records.entry.now (as_told told.now)) }
     ensures parts { OnOk result (parts pieces.new.items ≡ parts pieces.old.items
-        ++ death_parts records.entry.now (as_told told.now)) }
+        ++ death_parts signature.entry.now records.entry.now (as_told told.now)) }
 {
     let teller: &'a RecordReport = told.teller;
     let text = teller.readable();
     add_when(pieces, teller.time)?;
+    add_up(pieces, uptime(text, told.death.telling))?;
     add_context(pieces, text, told.death)?;
+    add_bytes(pieces, "Signature", signature)?;
+    add_machine(pieces, machine_told(told, console(records)))?;
     add_before(pieces, teller.name, records)?;
     add_teller(pieces, teller.name, console_text(told, console(records)))?;
     add_around(pieces, text, told.death)?;
@@ -289,18 +255,19 @@ fn add_death<'a>(
     Ok(())
 }
 
-/// Adds what is known of the death that one of these records tells, and the lines around it.
+/// Adds what is known of the death that one of these records tells, and the lines around it; or of the log's end.
 pub fn add_died<'a>(
     pieces: &mut Vec<Piece<'a>>,
+    signature: &'a [u8],
     records: &'a [RecordReport],
     told: Option<Telling<'a>>,
 ) -> Result<(), AllocError>
-    ensures tells { OnOk result (AllTellBytes records.entry.now (told_in told.entry)) }
+    ensures tells { OnOk result (AllTellBytes signature.entry.now records.entry.now (told_in told.entry)) }
     ensures parts { OnOk result (parts pieces.new.items
-        ≡ parts pieces.old.items ++ died_parts records.entry.now (told_in told.entry)) }
+        ≡ parts pieces.old.items ++ died_parts signature.entry.now records.entry.now (told_in told.entry)) }
 {
     match told {
-        Some(told) => add_death(pieces, &told, records),
-        None => add(pieces, &[Piece::Own("</header>\n<main>\n")]),
+        Some(told) => add_death(pieces, signature, &told, records),
+        None => add_end(pieces, end_told(records)),
     }
 }

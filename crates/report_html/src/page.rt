@@ -7,12 +7,12 @@ ghost use Rattle.report_spec.specs.Packed.{readable};
 ghost use Rattle.report_html.specs.Pieces.{parts};
 ghost use Rattle.report_html.specs.Pages.{time_parts, length_parts, packing_parts, content_parts, record_parts};
 ghost use Rattle.report_html.specs.Pages.{records_after, list_parts, records_opening, heading_parts};
-ghost use Rattle.report_html.specs.Pages.{page_parts, page_of};
-ghost use Rattle.report_spec.specs.Deaths.{death_told};
+ghost use Rattle.report_html.specs.Pages.{named_parts, page_with, page_of};
 ghost use Rattle.report_html.specs.Escaping.{HoldBytes, AllTellBytes, IsWithoutMarkup};
 
 use crate::causes::add_causes;
 use crate::died::{add_died, add_why};
+use crate::ended::words;
 use crate::groups::{add_edge, are_grouped, group_in};
 use crate::listed::{add_fold, add_say, is_unfolded, unfolded};
 use crate::parameters::add_parameters;
@@ -24,7 +24,9 @@ use crate::warnings::add_warnings;
 use crate::words::{END, HEAD, LEVELS, NAVIGATION};
 use outside::Bytes;
 use prz_read::Logs;
-use region_report::{Packing, RecordReport, Report, Telling, death_told, newest_dump};
+use region_report::{
+    Packing, RecordReport, Report, Telling, death_told, end_told, newest_dump, signature_of,
+};
 use std::alloc::{AllocError, Global};
 use zone_spec::{Name, Params, Time, Zone};
 
@@ -180,14 +182,42 @@ fn add_records_opening(pieces: &mut Vec<Piece<'_>>, count: u64) -> Result<(), Al
     )
 }
 
-/// Adds a head with the style, and the title.
-fn add_heading<'a>(pieces: &mut Vec<Piece<'a>>, title: &'a [u8]) -> Result<(), AllocError>
-    ensures { OnOk result (parts pieces.new.items ≡ parts pieces.old.items ++ heading_parts title.entry.now) }
+/// Adds what the page is named by: the signature, or how the log ends.
+fn add_named<'a>(
+    pieces: &mut Vec<Piece<'a>>,
+    signature: &'a [u8],
+    records: &[RecordReport],
+    told: Option<Telling<'_>>,
+) -> Result<(), AllocError>
+    ensures { OnOk result (parts pieces.new.items
+        ≡ parts pieces.old.items ++ named_parts signature.entry.now records.now (told_in told.entry)) }
+{
+    match told {
+        Some(_) => add(pieces, &[Piece::Foreign(signature)]),
+        None => add(pieces, &[Piece::Own(words(end_told(records)))]),
+    }
+}
+
+/// Adds a head with the page's name and the style, and the title.
+fn add_heading<'a>(
+    pieces: &mut Vec<Piece<'a>>,
+    title: &'a [u8],
+    signature: &'a [u8],
+    records: &[RecordReport],
+    told: Option<Telling<'_>>,
+) -> Result<(), AllocError>
+    ensures { OnOk result (parts pieces.new.items ≡ parts pieces.old.items
+        ++ heading_parts title.entry.now (named_parts signature.entry.now records.now (told_in told.entry))) }
 {
     add(
         pieces,
+        &[Piece::Own(HEAD), Piece::Foreign(title), Piece::Own(": ")],
+    )?;
+    add_named(pieces, signature, records, told)?;
+    add(
+        pieces,
         &[
-            Piece::Own(HEAD),
+            Piece::Own("</title>\n<style>\n"),
             Piece::Own(STYLE),
             Piece::Own("</style>\n</head>\n<body>\n<header>\n<h1>Why this machine died: "),
             Piece::Foreign(title),
@@ -203,18 +233,19 @@ fn all_pieces<'a>(
     params: &Params,
     zones: &[Zone],
     report: &'a Report,
+    signature: &'a [u8],
+    told: Option<Telling<'a>>,
 ) -> Result<Vec<Piece<'a>>, AllocError>
     ensures bytes { OnOk result (HoldBytes report.entry.now.records) }
-    ensures tells { OnOk result (AllTellBytes report.entry.now.records (death_told report.entry.now.records)) }
+    ensures tells { OnOk result (AllTellBytes signature.entry.now report.entry.now.records (told_in told.entry)) }
     ensures parts { IfOk result (λ pieces. parts pieces.items
-        ≡ page_parts title.entry.now params.now zones.now report.entry.now) }
+        ≡ page_with title.entry.now params.now zones.now report.entry.now signature.entry.now (told_in told.entry)) }
 {
     let mut pieces = Vec::new(alloc);
-    let told = death_told(report.records());
-    add_heading(&mut pieces, title)?;
-    add_why(&mut pieces, told)?;
+    add_heading(&mut pieces, title, signature, report.records(), told)?;
+    add_why(&mut pieces, report.records(), told)?;
     add_warnings(alloc, &mut pieces, report, told)?;
-    add_died(&mut pieces, report.records(), told)?;
+    add_died(&mut pieces, signature, report.records(), told)?;
     add_records_opening(&mut pieces, report.records().len() as u64)?;
     add_causes(alloc, &mut pieces, report.records())?;
     add_list(&mut pieces, zones, report, told)?;
@@ -236,7 +267,17 @@ pub fn html(
     ensures page { IfOk result (λ text. text.items ≡ page_of title.now params.now zones.now report.now) }
     ensures no_markup { IfOk result (λ text. IsWithoutMarkup title.now report.now.records text.items) }
 {
-    let pieces = all_pieces(alloc, title, params, zones, report)?;
+    let told = death_told(report.records());
+    let signature = signature_of(alloc, told)?;
+    let pieces = all_pieces(
+        alloc,
+        title,
+        params,
+        zones,
+        report,
+        signature.as_slice(),
+        told,
+    )?;
     let text = render(alloc, pieces.as_slice())?;
     Ok(text)
 }

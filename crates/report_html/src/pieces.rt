@@ -6,7 +6,7 @@ use crate::escaping::push_escaped;
 use crate::logs::push_log;
 use crate::names::{push_link, push_name};
 use itoa::Buffer;
-use region_report::push_moment;
+use region_report::{push_long, push_moment};
 use std::alloc::{AllocError, Global};
 use zone_spec::{Name, Time};
 
@@ -18,6 +18,8 @@ pub enum Piece<'a> {
     Foreign(&'a [u8]),
     /// The date and time of day.
     Moment(Time),
+    /// Seconds in larger units, from a minute on.
+    Long(u64),
     /// A log, line by line.
     Log(&'a [u8]),
     /// The name of a record's file, which is also its anchor.
@@ -37,6 +39,7 @@ fn push_piece(out: &mut Vec<u8>, piece: Piece<'_>) -> Result<(), AllocError>
         }
         Piece::Foreign(bytes) => push_escaped(out, bytes),
         Piece::Moment(time) => push_moment(out, time),
+        Piece::Long(seconds) => push_long(out, seconds),
         Piece::Log(text) => push_log(out, text),
         Piece::Named(name) => push_name(out, name),
         Piece::Link(name) => push_link(out, name),

@@ -1,10 +1,10 @@
 // The page's own words, which its definition cites.
 
-/// The head, before the style sheet: no script, and nothing from elsewhere.
+/// The head, before the name of the page: no script, and nothing from elsewhere.
 pub const HEAD: &str = "<!doctype html>\n<html lang=\"en\">\n<head>\n<meta charset=\"utf-8\">\n\
 <meta name=\"viewport\" content=\"width=device-width, initial-scale=1\">\n\
 <meta http-equiv=\"Content-Security-Policy\" content=\"default-src 'none'; style-src 'unsafe-inline'\">\n\
-<title>Crash log report</title>\n<style>\n";
+<title>";
 
 /// After the title.
 pub const NAVIGATION: &str =

@@ -46,7 +46,7 @@ use Rattle.report_spec.specs.declared.DumpReason.TheVariants.{Panic, Oops, Emerg
 use Rattle.report_spec.specs.declared.DumpReason.TheVariants.{ShutDown}
 use Rattle.report_spec.specs.declared.Warning.{Warning}
 use Rattle.report_spec.specs.declared.Warning.TheVariants.{ConsoleTells, BadTeller, BadHeaders, NoLog, ManyBad}
-use Rattle.report_spec.specs.Facts.{uptime_of, MachineTold, machine_of, signature_told}
+use Rattle.report_spec.specs.Facts.{uptime_of, MachineTold, machine_of, machine_ended, signature_told}
 use Rattle.report_spec.specs.Newest.{console_of}
 use Rattle.report_spec.specs.Ends.{EndTold, reason_of, end_told}
 use Rattle.region_report.specs.Counted.{zones_counted}
@@ -277,9 +277,13 @@ machine_with m = object (
     member (codes "modules") (bytes_data m.modules) (
     member (codes "version") (bytes_data m.version) no_members))))
 
--- what the log of a death says of the machine
+abbrev pub ended_machine : Option EndTold → Data
+ended_machine None = null
+ended_machine (Some t) = machine_with (machine_ended t)
+
+-- what a log says of the machine
 abbrev pub machine_data : List RecordShown → Option DeathTold → Data
-machine_data records None = null
+machine_data records None = ended_machine (end_told records)
 machine_data records (Some t) = machine_with (machine_of t (console_of records))
 
 -- ---- no death

@@ -1,13 +1,16 @@
-// The values of what the log of a death says of the machine, and of the signature.
+// The values of what a log says of the machine, and of the signature.
 ghost use Rattle.std.specs.Prelude.{◌≡◌, IfOk};
 ghost use Rattle.serde_json.specs.View.{view};
 ghost use Rattle.report_spec.specs.Facts.{signature_told};
 ghost use Rattle.region_report.specs.Machines.{as_machine};
-ghost use Rattle.region_report.specs.Tellers.{told_in};
-ghost use Rattle.report_json.specs.Schema.{bytes_data, machine_with, machine_data};
+ghost use Rattle.region_report.specs.Tellers.{told_in, end_in};
+ghost use Rattle.report_json.specs.Schema.{bytes_data, machine_with, ended_machine, machine_data};
 
 use crate::deaths::bytes_value;
-use region_report::{Machine, RecordReport, Telling, console, machine_told, signature_of};
+use region_report::{
+    End, Machine, RecordReport, Telling, console, end_told, machine_ended, machine_told,
+    signature_of,
+};
 use serde_json::{Value, json};
 use std::alloc::{AllocError, Global};
 
@@ -26,7 +29,16 @@ fn machine_with(alloc: Global, machine: Machine<'_>) -> Result<Value, AllocError
     })
 }
 
-/// What the log of a death says of the machine, or null.
+fn ended_machine(alloc: Global, end: Option<End<'_>>) -> Result<Value, AllocError>
+    ensures { IfOk result (λ v. view v ≡ ended_machine (end_in end.entry)) }
+{
+    match end {
+        Some(end) => machine_with(alloc, machine_ended(&end)),
+        None => Ok(Value::Null),
+    }
+}
+
+/// What the log of a death, or of an end without one, says of the machine, or null.
 pub fn machine_value(
     alloc: Global,
     records: &[RecordReport],
@@ -36,7 +48,7 @@ pub fn machine_value(
 {
     match told {
         Some(told) => machine_with(alloc, machine_told(&told, console(records))),
-        None => Ok(Value::Null),
+        None => ended_machine(alloc, end_told(records)),
     }
 }
 

@@ -8,6 +8,7 @@ use Rattle.death_spec.specs.Lines.{part, lines_from, said}
 use Rattle.death_spec.specs.Signatures.{signature_of}
 use Rattle.report_spec.specs.Packed.{RecordShown, readable}
 use Rattle.report_spec.specs.Deaths.{DeathTold, stamped, has_line}
+use Rattle.report_spec.specs.Ends.{EndTold}
 
 -- ---- how long the machine had been up
 
@@ -52,10 +53,17 @@ pub record MachineTold : Type 0 where
   pub cmdline : List ℕ
   pub version : List ℕ
 
--- the hardware and the modules by a report below a place, the command line and the kernel's version by the boot's lines
+-- the machine's name by the lines of its boot: a device tree's, or the firmware's
+abbrev pub model_in : List ℕ → List Line → List ℕ
+model_in text lines =
+    or_bytes (said_after text (codes "Machine model: ") lines)
+    (or_bytes (said_after text (codes "OF: fdt: Machine model: ") lines) (said_after text (codes "DMI: ") lines))
+
+-- the hardware and the modules by a report below a place; the command line, the kernel's version, and the hardware where
+-- no report names it, by the boot's lines
 abbrev pub machine_in : List ℕ → ℕ → MachineTold
 machine_in text at = record {
-  hardware = said_after text (codes "Hardware name: ") (lines_from text at);
+  hardware = or_bytes (said_after text (codes "Hardware name: ") (lines_from text at)) (model_in text (lines_from text 0));
   modules = said_after text (codes "Modules linked in: ") (lines_from text at);
   cmdline = or_bytes (said_after text (codes "Kernel command line: ") (lines_from text 0))
       (said_after text (codes "Command line: ") (lines_from text 0));
@@ -80,6 +88,10 @@ shared_text t (Some console) =
 abbrev pub machine_of : DeathTold → Option RecordShown → MachineTold
 machine_of t console =
     machine_or (machine_in (readable t.teller) t.death.telling.next) (machine_in (shared_text t console) 0)
+
+-- by the record that tells how a log ends without a death
+abbrev pub machine_ended : EndTold → MachineTold
+machine_ended t = machine_in (readable t.teller) 0
 
 -- ---- the signature
 

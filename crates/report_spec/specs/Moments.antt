@@ -31,3 +31,15 @@ abbrev pub moment_text : Time → List ℕ
 moment_text time =
     if nat_lt (time.secs / 86400) 100_000 then dated_text (time.secs / 86400) (time.secs % 86400) time.micros
     else undated_text time
+
+-- a number of one unit and a number of a smaller one
+abbrev pub unit_text : ℕ → List ℕ → ℕ → List ℕ → List ℕ
+unit_text large unit small end = codes " (" ++ decimal large ++ unit ++ decimal small ++ end
+
+-- seconds in larger units, from a minute on, such as ` (5 min 12 s)`
+abbrev pub long_text : ℕ → List ℕ
+long_text n =
+    if nat_lt n 60 then []
+    else (if nat_lt n 3600 then unit_text (n / 60) (codes " min ") (n % 60) (codes " s)")
+    else (if nat_lt n 86_400 then unit_text (n / 3600) (codes " h ") (n / 60 % 60) (codes " min)")
+    else unit_text (n / 86_400) (codes " d ") (n / 3600 % 24) (codes " h)")))

@@ -1,7 +1,7 @@
 // Pages and escaped bytes.
 use crate::packed_dumps::{self, DAMAGED, WHOLE};
 use crate::whole_reports::{console, has, page_of, report_on};
-use crate::worked_deaths::{self, CONSOLE, FATAL, NAMED, NONE, OOPS, PANIC, SILENT};
+use crate::worked_deaths::{self, CONSOLE, FATAL, LONG, NAMED, NONE, OOPS, ORDERLY, PANIC, SILENT};
 use ramoops_layout::Params;
 use report_html::*;
 use std::alloc::Global;
@@ -175,11 +175,12 @@ fn why_it_died(rt: HostRuntime) -> Result<(), Fail> {
 <pre class=\"why\">Kernel panic - not syncing: &lt;b&gt;\\xff</pre>
 <table class=\"fact\">
 <tr><th scope=\"row\">When</th><td><b>2025-11-27 00:04:18.836908 UTC</b></td></tr>
-<tr><th scope=\"row\">Seconds after boot</th><td>    2.500000</td></tr>
+<tr><th scope=\"row\">Up</th><td>2.500000 s</td></tr>
 <tr><th scope=\"row\">CPU</th><td>0</td></tr>
 <tr><th scope=\"row\">Task</th><td>PID: 1 Comm: init</td></tr>
 <tr><th scope=\"row\">Kernel</th><td>Not tainted 6.1.0 #1</td></tr>
 <tr><th scope=\"row\">Function</th><td>sysrq_handle_crash+0x16/0x20</td></tr>
+<tr><th scope=\"row\">Signature</th><td>kernel panic: &lt;b&gt;\\xff</td></tr>
 <tr><th scope=\"row\">Told by</th><td><a href=\"#dmesg-ramoops-0\">dmesg-ramoops-0</a></td></tr>
 </table>
 </header>
@@ -201,9 +202,10 @@ Panic#1 Part1
 #[test]
 fn why_it_died_by_the_console(rt: HostRuntime) -> Result<(), Fail> {
     let died = "<tr><th scope=\"row\">When</th><td>no date</td></tr>
-<tr><th scope=\"row\">Seconds after boot</th><td>    3.034971</td></tr>
+<tr><th scope=\"row\">Up</th><td>3.034971 s</td></tr>
 <tr><th scope=\"row\">CPU</th><td>not recorded</td></tr>
 <tr><th scope=\"row\">Function</th><td>not recorded</td></tr>
+<tr><th scope=\"row\">Signature</th><td>kernel panic: sysrq triggered crash</td></tr>
 <tr><th scope=\"row\">Told by</th><td><a href=\"#console-ramoops-0\">console-ramoops-0</a></td></tr>\n";
     assert!(rt; shows(rt, [NONE, NONE, NONE, CONSOLE], died)?);
     let lines = "<pre class=\"log\">
@@ -217,10 +219,57 @@ fn why_it_died_by_the_console(rt: HostRuntime) -> Result<(), Fail> {
     let marked = "<pre class=\"log\">
 <mark>[    3.0] Oops: a\n</mark><mark>[    3.1] Kernel panic - not syncing: Fatal exception\n</mark></pre>\n";
     assert!(rt; shows(rt, [NONE, NONE, NONE, FATAL], marked)?);
-    let none = "</nav>\n<pre class=\"why\">No record tells why.</pre>
+    let none = "</nav>\n<pre class=\"why\">no death: no record tells of the kernel</pre>
 <p class=\"warn\"><b>Read with care.</b> No zone has a log. \
 The region is blank, or its place or the parameters are not the kernel's.</p>\n</header>\n<main>\n";
     assert!(rt; shows(rt, [NONE, NONE, NONE, NONE], none)?);
+    Ok(())
+}
+
+// A console that tells of a boot and of a death a day later, and one that tells of an orderly end.
+#[test]
+fn what_is_known(rt: HostRuntime) -> Result<(), Fail> {
+    for (log, shown) in [
+        (
+            LONG,
+            "<title>a: BUG: kernel NULL pointer dereference in boom_deref</title>\n<style>\n",
+        ),
+        (
+            LONG,
+            "<tr><th scope=\"row\">When</th><td>no date</td></tr>
+<tr><th scope=\"row\">Up</th><td>93784.500000 s (1 d 2 h)</td></tr>
+<tr><th scope=\"row\">CPU</th><td>1</td></tr>
+<tr><th scope=\"row\">Task</th><td>PID: 40 Comm: init</td></tr>
+<tr><th scope=\"row\">Kernel</th><td>Tainted: G O 6.1.0 #1</td></tr>
+<tr><th scope=\"row\">Function</th><td>boom_deref+0x5/0x20 [boom]</td></tr>
+<tr><th scope=\"row\">Signature</th><td>BUG: kernel NULL pointer dereference in boom_deref</td></tr>
+<tr><th scope=\"row\">Hardware</th><td>QEMU Standard PC</td></tr>
+<tr><th scope=\"row\">Modules</th><td>boom(O) lkdtm</td></tr>
+<tr><th scope=\"row\">Version</th><td>6.1.0 (gcc 12) #1 SMP</td></tr>
+<tr><th scope=\"row\">Command line</th><td>console=ttyS0 panic=5</td></tr>
+<tr><th scope=\"row\">Told by</th>",
+        ),
+        (
+            ORDERLY,
+            "<title>a: no death: an orderly restart</title>\n<style>\n",
+        ),
+        (
+            ORDERLY,
+            "</nav>
+<pre class=\"why\">no death: an orderly restart</pre>
+<table class=\"fact\">
+<tr><th scope=\"row\">When</th><td>no date</td></tr>
+<tr><th scope=\"row\">Up</th><td>312.884310 s (5 min 12 s)</td></tr>
+<tr><th scope=\"row\">Last line</th><td>reboot: Restarting system</td></tr>
+<tr><th scope=\"row\">Told by</th><td><a href=\"#console-ramoops-0\">console-ramoops-0</a></td></tr>
+</table>
+</header>
+<main>
+",
+        ),
+    ] {
+        assert!(rt; shows(rt, [NONE, NONE, NONE, log], shown)?, "{shown}");
+    }
     Ok(())
 }
 

@@ -1,7 +1,7 @@
 // Texts of worked images, and dates in them.
 use crate::packed_dumps::{self, DAMAGED, WHOLE};
 use crate::whole_reports::{BARE, console, has, text_on};
-use crate::worked_deaths::{self, CONSOLE, FATAL, NAMED, NONE, OOPS, PANIC};
+use crate::worked_deaths::{self, CONSOLE, FATAL, LONG, NAMED, NONE, OOPS, ORDERLY, PANIC};
 use outside::Bytes;
 use ramoops_layout::Params;
 use report_text::brief;
@@ -208,15 +208,6 @@ zones 4, records 1
     Ok(())
 }
 
-// A log that tells of a boot and of a death a day later.
-const LONG: &[u8] = b"[    0.000000] Linux version 6.1.0 (gcc 12) #1 SMP\n\
-[    0.000000] Command line: console=ttyS0 panic=5\n\
-[93784.500000] BUG: kernel NULL pointer dereference, address: 0000000000000018\n\
-[93784.510000] Modules linked in: boom(O) lkdtm\n\
-[93784.520000] CPU: 1 PID: 40 Comm: init Tainted: G O 6.1.0 #1\n\
-[93784.530000] Hardware name: QEMU Standard PC\n\
-[93784.540000] RIP: 0010:boom_deref+0x5/0x20 [boom]\n";
-
 #[test]
 fn what_is_known(rt: HostRuntime) -> Result<(), Fail> {
     let text = shown_deaths(rt.alloc(), [NONE, NONE, NONE, LONG])?;
@@ -237,17 +228,17 @@ fn what_is_known(rt: HostRuntime) -> Result<(), Fail> {
     Ok(())
 }
 
+// The console of a machine that a device tree describes.
+const BOOTED: &[u8] = b"[    0.000000] Linux version 6.12.1 (gcc 12) #1 SMP\n\
+[    0.000000] Machine model: linux,dummy-virt\n[    0.000000] Kernel command line: quiet\n\
+[  312.9] eth0: link up\n";
+
 // Logs of which no line tells of a death, and the first lines of their texts.
 #[test]
 fn no_death(rt: HostRuntime) -> Result<(), Fail> {
     for (logs, first) in [
         (
-            [
-                NONE,
-                NONE,
-                NONE,
-                b"[  312.884310] reboot: Restarting system\n",
-            ],
+            [NONE, NONE, NONE, ORDERLY],
             "no death: an orderly restart
   last line  reboot: Restarting system
   up         312.884310 s (5 min 12 s)
@@ -271,6 +262,18 @@ zones 4, records 1
   when       2025-11-27 00:04:18.836908 UTC
   up         7325.000000 s (2 h 2 min)
   told by    dmesg-ramoops-0
+",
+        ),
+        (
+            [NONE, NONE, NONE, BOOTED],
+            "no death: the log breaks off; the machine hung, lost power or was reset
+  last line  eth0: link up
+  up         312.9 s (5 min 12 s)
+  hardware   linux,dummy-virt
+  version    6.12.1 (gcc 12) #1 SMP
+  cmdline    quiet
+  told by    console-ramoops-0
+  image      a
 ",
         ),
         (

@@ -41,6 +41,18 @@ pub const NAMED: &[u8] = b"====1764201858.836908-D\nPanic#1 Part1\n\
 <4>[    2.600000] CPU: 0 PID: 1 Comm: init Not tainted 6.1.0 #1\n<4>[    2.700000] Call Trace:\n\
 <4>[    2.800000]  panic+0x1/0x2\n<4>[    2.900000]  sysrq_handle_crash+0x16/0x20\n";
 
+/// A console that tells of a boot and of a death a day later.
+pub const LONG: &[u8] = b"[    0.000000] Linux version 6.1.0 (gcc 12) #1 SMP\n\
+[    0.000000] Command line: console=ttyS0 panic=5\n\
+[93784.500000] BUG: kernel NULL pointer dereference, address: 0000000000000018\n\
+[93784.510000] Modules linked in: boom(O) lkdtm\n\
+[93784.520000] CPU: 1 PID: 40 Comm: init Tainted: G O 6.1.0 #1\n\
+[93784.530000] Hardware name: QEMU Standard PC\n\
+[93784.540000] RIP: 0010:boom_deref+0x5/0x20 [boom]\n";
+
+/// A console that ends in order.
+pub const ORDERLY: &[u8] = b"[  312.884310] reboot: Restarting system\n";
+
 // Three dumps of 1024 bytes and a console of 1024.
 pub const PARAMS: Params = Params {
     dump: 1024,

@@ -6,23 +6,17 @@ use Rattle.zone_spec.specs.declared.Time.{Time}
 use Rattle.death_spec.specs.declared.Line.{Line}
 use Rattle.death_spec.specs.declared.Span.{Span}
 use Rattle.death_spec.specs.declared.Death.{Death}
-use Rattle.death_spec.specs.declared.Ended.{Ended}
-use Rattle.death_spec.specs.declared.Ending.{Ending}
-use Rattle.death_spec.specs.declared.Ending.TheVariants.{Restarted, SwitchedOff, Reset, BrokenOff}
 use Rattle.death_spec.specs.Lines.{part}
 use Rattle.report_spec.specs.declared.Packing.{Packing}
 use Rattle.report_spec.specs.declared.Packing.TheVariants.{Plain, Whole, Part as PartOfText}
-use Rattle.report_spec.specs.declared.DumpReason.{DumpReason}
-use Rattle.report_spec.specs.declared.DumpReason.TheVariants.{Panic, Oops, Emergency, Restart, Halt, PowerOff}
-use Rattle.report_spec.specs.declared.DumpReason.TheVariants.{ShutDown}
 use Rattle.report_spec.specs.declared.Warning.{Warning}
 use Rattle.report_spec.specs.declared.Warning.TheVariants.{ConsoleTells, BadTeller, BadHeaders, NoLog, ManyBad}
 use Rattle.report_spec.specs.Packed.{RecordShown, readable}
 use Rattle.report_spec.specs.Newest.{is_console, console_of}
 use Rattle.report_spec.specs.Deaths.{DeathTold, stamped, has_line}
-use Rattle.report_spec.specs.Ends.{EndTold, reason_of, end_told}
-use Rattle.report_spec.specs.Facts.{uptime_of, seconds_from, MachineTold, machine_of}
-use Rattle.report_text.specs.Pieces.{Part, Words, Count, Bytes, Moment, Named}
+use Rattle.report_spec.specs.Ends.{EndTold, end_told, end_words}
+use Rattle.report_spec.specs.Facts.{uptime_of, seconds_from, MachineTold, machine_of, machine_ended}
+use Rattle.report_text.specs.Pieces.{Part, Words, Count, Bytes, Moment, Long, Named}
 
 -- ---- why
 
@@ -66,25 +60,12 @@ abbrev pub when_parts : Option Time → List Part
 when_parts None = []
 when_parts (Some time) = Words (codes "  when       ") ∷ Moment time ∷ Words (codes "\n") ∷ []
 
--- a number of one unit and a number of a smaller one, such as ` (5 min 12 s)`
-abbrev pub unit_parts : ℕ → List ℕ → ℕ → List ℕ → List Part
-unit_parts large unit small end =
-    Words (codes " (") ∷ Count 1 large ∷ Words unit ∷ Count 1 small ∷ Words end ∷ []
-
--- seconds in larger units, from a minute on
-abbrev pub long_parts : ℕ → List Part
-long_parts n =
-    if nat_lt n 60 then []
-    else (if nat_lt n 3600 then unit_parts (n / 60) (codes " min ") (n % 60) (codes " s)")
-    else (if nat_lt n 86_400 then unit_parts (n / 3600) (codes " h ") (n / 60 % 60) (codes " min)")
-    else unit_parts (n / 86_400) (codes " d ") (n / 3600 % 24) (codes " h)")))
-
 -- how long the machine had been up
 abbrev pub up_parts : List ℕ → List Part
 up_parts [] = []
 up_parts (b ∷ bs) =
-    Words (codes "  up         ") ∷ Bytes (b ∷ bs) ∷ Words (codes " s") ∷ long_parts (seconds_from 0 (b ∷ bs))
-    ++ Words (codes "\n") ∷ []
+    Words (codes "  up         ") ∷ Bytes (b ∷ bs) ∷ Words (codes " s") ∷ Long (seconds_from 0 (b ∷ bs))
+    ∷ Words (codes "\n") ∷ []
 
 -- what else that report names
 abbrev pub named_parts : List ℕ → Death → List Part
@@ -131,36 +112,15 @@ death_parts title signature t console =
 
 -- ---- no death
 
--- a dump of a panic or an oops can lack its line, if its zone was too small
-abbrev pub dump_words : DumpReason → List ℕ
-dump_words Panic = codes "died: of a panic; its line is not in the dump\n"
-dump_words Oops = codes "died: of an oops; its line is not in the dump\n"
-dump_words Emergency = codes "no panic: the kernel was told to restart in an emergency\n"
-dump_words Restart = codes "no panic: the kernel was told to restart\n"
-dump_words Halt = codes "no panic: the kernel was told to halt\n"
-dump_words PowerOff = codes "no panic: the kernel was told to power off\n"
-dump_words ShutDown = codes "no panic: the kernel was told to shut down\n"
-
-abbrev pub ending_words : Ending → List ℕ
-ending_words Restarted = codes "no death: an orderly restart\n"
-ending_words SwitchedOff = codes "no death: switched off or halted in order\n"
-ending_words Reset = codes "no death: restarted by sysrq\n"
-ending_words BrokenOff = codes "no death: the log breaks off; the machine hung, lost power or was reset\n"
-
--- the head of a dump says more than its last line
-abbrev pub no_death_words : Option DumpReason → Ending → List ℕ
-no_death_words None ending = ending_words ending
-no_death_words (Some reason) ending = dump_words reason
-
 abbrev pub ended_parts : List ℕ → List ℕ → Line → List Part
 ended_parts words text line =
-    Words words ∷ Words (codes "  last line  ") ∷ Bytes (part text line.text line.end) ∷ Words (codes "\n") ∷ []
+    Words words ∷ Words (codes "\n  last line  ") ∷ Bytes (part text line.text line.end) ∷ Words (codes "\n") ∷ []
 
 abbrev pub end_parts : List ℕ → EndTold → List Part
 end_parts title t =
-    ended_parts (no_death_words (reason_of (readable t.teller)) t.ended.ending) (readable t.teller) t.ended.line
+    ended_parts (end_words t) (readable t.teller) t.ended.line
     ++ when_parts t.teller.time ++ up_parts (uptime_of (readable t.teller) t.ended.line)
-    ++ source_parts t.teller [] title
+    ++ machine_parts (machine_ended t) ++ source_parts t.teller [] title
 
 -- neither a dump nor the console has a line of the kernel's
 abbrev pub unknown_parts : List ℕ → List Part
@@ -215,7 +175,7 @@ short_time (Some time) = Moment time ∷ []
 abbrev pub short_end : Option EndTold → List Part
 short_end None = Words (codes "  -  no death: no record tells of the kernel\n") ∷ []
 short_end (Some t) =
-    Words (codes "  -  ") ∷ Words (no_death_words (reason_of (readable t.teller)) t.ended.ending) ∷ []
+    Words (codes "  -  ") ∷ Words (end_words t) ∷ Words (codes "\n") ∷ []
 
 -- the time of the record that tells, and the signature; or how the log ends
 abbrev pub short_parts : List ℕ → List RecordShown → Option DeathTold → List Part

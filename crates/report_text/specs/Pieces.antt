@@ -3,19 +3,20 @@ use Rattle.std.specs.Prelude.{ℕ, ◌-◌, ◌++◌, List, length, take, min, m
 use Rattle.zone_spec.specs.declared.Name.{Name}
 use Rattle.zone_spec.specs.declared.Time.{Time}
 use Rattle.zone_spec.specs.Names.{name_text}
-use Rattle.report_spec.specs.Moments.{moment_text}
+use Rattle.report_spec.specs.Moments.{moment_text, long_text}
 use Rattle.report_spec.specs.Visible.{visible}
 use Rattle.report_text.specs.declared.pieces.Piece.{Piece}
 use Rattle.report_text.specs.declared.pieces.Piece.TheVariants.{Own, Number, Foreign, Moment as MomentPiece}
-use Rattle.report_text.specs.declared.pieces.Piece.TheVariants.{Named as NamedPiece}
+use Rattle.report_text.specs.declared.pieces.Piece.TheVariants.{Long as LongPiece, Named as NamedPiece}
 
--- a part of a text: its own words; a number, with blanks before it up to so many columns; foreign bytes; a time; or the
--- name of a record's file
+-- a part of a text: its own words; a number, with blanks before it up to so many columns; foreign bytes; a time; seconds
+-- in larger units; or the name of a record's file
 pub data Part : Type 0 where
   Words : (text : List ℕ) → Part
   Count : (columns n : ℕ) → Part
   Bytes : (bytes : List ℕ) → Part
   Moment : (time : Time) → Part
+  Long : (seconds : ℕ) → Part
   Named : (name : Name) → Part
 
 -- a number in decimal, after as many blanks as make so many columns
@@ -28,6 +29,7 @@ part_text (Words text) = visible text
 part_text (Count columns n) = visible (filled columns n)
 part_text (Bytes bytes) = visible bytes
 part_text (Moment time) = visible (moment_text time)
+part_text (Long seconds) = visible (long_text seconds)
 part_text (Named name) = visible (name_text name)
 
 -- the text of parts, end to end
@@ -40,6 +42,7 @@ part_of (Own text) = Words text.now
 part_of (Number columns n) = Count columns n
 part_of (Foreign bytes) = Bytes bytes.now
 part_of (MomentPiece time) = Moment time
+part_of (LongPiece seconds) = Long seconds
 part_of (NamedPiece name) = Named name
 
 abbrev pub parts : List Piece → List Part

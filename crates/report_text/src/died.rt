@@ -4,16 +4,16 @@ ghost use Rattle.std.specs.Option.{option_copied};
 ghost use Rattle.region_report.specs.Tellers.{as_told, told_in, as_ended, end_in};
 ghost use Rattle.report_text.specs.Pieces.{parts};
 ghost use Rattle.report_text.specs.Facts.{second_parts, reason_parts, shared_words, console_words, death_parts};
-ghost use Rattle.report_text.specs.Facts.{dump_words, ending_words, no_death_words, ended_parts, end_parts, unknown_parts};
+ghost use Rattle.report_text.specs.Facts.{ended_parts, end_parts, unknown_parts};
 ghost use Rattle.report_text.specs.Facts.{unless_ended, first_parts};
 
 use crate::facts::{add_bytes, add_function, add_machine, add_named, add_source, add_up, add_when};
 use crate::pieces::{Piece, add};
 use death::part;
-use death_spec::{Death, Ending, Line};
+use death_spec::{Death, Line};
 use region_report::{
-    DumpReason, End, RecordReport, Telling, console, dump_reason, end_told, has_telling_line,
-    is_console, machine_told, uptime,
+    End, RecordReport, Telling, console, end_text, end_told, has_telling_line, is_console,
+    machine_ended, machine_told, uptime,
 };
 use std::alloc::AllocError;
 
@@ -103,43 +103,6 @@ fn add_death<'a>(
     add_source(pieces, teller, console_text(told, console), title)
 }
 
-fn dump_text(reason: DumpReason) -> &'static str
-    ensures { result.now ≡ dump_words reason }
-{
-    match reason {
-        DumpReason::Panic => "died: of a panic; its line is not in the dump\n",
-        DumpReason::Oops => "died: of an oops; its line is not in the dump\n",
-        DumpReason::Emergency => "no panic: the kernel was told to restart in an emergency\n",
-        DumpReason::Restart => "no panic: the kernel was told to restart\n",
-        DumpReason::Halt => "no panic: the kernel was told to halt\n",
-        DumpReason::PowerOff => "no panic: the kernel was told to power off\n",
-        DumpReason::ShutDown => "no panic: the kernel was told to shut down\n",
-    }
-}
-
-fn ending_text(ending: Ending) -> &'static str
-    ensures { result.now ≡ ending_words ending }
-{
-    match ending {
-        Ending::Restarted => "no death: an orderly restart\n",
-        Ending::SwitchedOff => "no death: switched off or halted in order\n",
-        Ending::Reset => "no death: restarted by sysrq\n",
-        Ending::BrokenOff => {
-            "no death: the log breaks off; the machine hung, lost power or was reset\n"
-        }
-    }
-}
-
-/// Why the kernel made the dump, or how the log ends.
-pub fn no_death_text(reason: Option<DumpReason>, ending: Ending) -> &'static str
-    ensures { result.now ≡ no_death_words reason ending }
-{
-    match reason {
-        Some(reason) => dump_text(reason),
-        None => ending_text(ending),
-    }
-}
-
 fn add_ending<'a>(
     pieces: &mut Vec<Piece<'a>>,
     words: &'static str,
@@ -153,7 +116,7 @@ fn add_ending<'a>(
         pieces,
         &[
             Piece::Own(words),
-            Piece::Own("  last line  "),
+            Piece::Own("\n  last line  "),
             Piece::Foreign(part(text, line.text, line.end)),
             Piece::Own("\n"),
         ],
@@ -170,10 +133,10 @@ fn add_end<'a>(
 {
     let teller: &'a RecordReport = end.teller;
     let text = teller.readable();
-    let words = no_death_text(dump_reason(text), end.ended.ending);
-    add_ending(pieces, words, text, end.ended.line)?;
+    add_ending(pieces, end_text(end), text, end.ended.line)?;
     add_when(pieces, teller.time)?;
     add_up(pieces, uptime(text, end.ended.line))?;
+    add_machine(pieces, machine_ended(end))?;
     add_source(pieces, teller, "", title)
 }
 

@@ -2,8 +2,8 @@
 ghost use Rattle.std.specs.Prelude.{◌≡◌, ◌++◌, length, nat_lt, if◌then◌else◌, codes, OnOk};
 ghost use Rattle.region_report.specs.Machines.{as_machine};
 ghost use Rattle.report_text.specs.Pieces.{parts};
-ghost use Rattle.report_text.specs.Facts.{fact_parts, next_words, function_parts, when_parts, long_parts, up_parts};
-ghost use Rattle.report_text.specs.Facts.{unit_parts, named_parts, bytes_fact, machine_parts};
+ghost use Rattle.report_text.specs.Facts.{fact_parts, next_words, function_parts, when_parts, up_parts};
+ghost use Rattle.report_text.specs.Facts.{named_parts, bytes_fact, machine_parts};
 ghost use Rattle.report_text.specs.Facts.{packing_words, teller_parts, image_parts, source_parts};
 
 use crate::pieces::{Piece, add};
@@ -89,44 +89,6 @@ pub fn add_when(pieces: &mut Vec<Piece<'_>>, time: Option<Time>) -> Result<(), A
     }
 }
 
-/// Adds a number of one unit and a number of a smaller one, in parentheses.
-fn add_units(
-    pieces: &mut Vec<Piece<'_>>,
-    large: u64,
-    unit: &'static str,
-    small: u64,
-    end: &'static str,
-) -> Result<(), AllocError>
-    ensures { OnOk result (parts pieces.new.items
-        ≡ parts pieces.old.items ++ unit_parts large unit.entry.now small end.entry.now) }
-{
-    add(
-        pieces,
-        &[
-            Piece::Own(" ("),
-            Piece::Number(1, large),
-            Piece::Own(unit),
-            Piece::Number(1, small),
-            Piece::Own(end),
-        ],
-    )
-}
-
-/// Adds seconds in larger units, from a minute on.
-fn add_long(pieces: &mut Vec<Piece<'_>>, seconds: u64) -> Result<(), AllocError>
-    ensures { OnOk result (parts pieces.new.items ≡ parts pieces.old.items ++ long_parts seconds) }
-{
-    if seconds < 60 {
-        Ok(())
-    } else if seconds < 3600 {
-        add_units(pieces, seconds / 60, " min ", seconds % 60, " s)")
-    } else if seconds < 86_400 {
-        add_units(pieces, seconds / 3600, " h ", seconds / 60 % 60, " min)")
-    } else {
-        add_units(pieces, seconds / 86_400, " d ", seconds / 3600 % 24, " h)")
-    }
-}
-
 /// Adds how long the machine had been up.
 pub fn add_up<'a>(pieces: &mut Vec<Piece<'a>>, uptime: &'a [u8]) -> Result<(), AllocError>
     ensures { OnOk result (parts pieces.new.items ≡ parts pieces.old.items ++ up_parts uptime.entry.now) }
@@ -140,10 +102,10 @@ pub fn add_up<'a>(pieces: &mut Vec<Piece<'a>>, uptime: &'a [u8]) -> Result<(), A
             Piece::Own("  up         "),
             Piece::Foreign(uptime),
             Piece::Own(" s"),
+            Piece::Long(seconds(uptime)),
+            Piece::Own("\n"),
         ],
-    )?;
-    add_long(pieces, seconds(uptime))?;
-    add(pieces, &[Piece::Own("\n")])
+    )
 }
 
 /// Adds what else that report names.

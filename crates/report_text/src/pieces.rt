@@ -1,7 +1,7 @@
 // The pieces of a text.
 ghost use Rattle.std.specs.Prelude.{◌≡◌, ◌++◌, true, IfOk, OnOk};
 ghost use Rattle.std.specs.List.{list_all};
-ghost use Rattle.report_spec.specs.Moments.{moment_text};
+ghost use Rattle.report_spec.specs.Moments.{moment_text, long_text};
 ghost use Rattle.report_spec.specs.Visible.{is_visible, visible};
 ghost use Rattle.zone_spec.specs.Names.{name_text as text_of_name};
 ghost use Rattle.report_text.specs.Pieces.{filled, piece_text, parts, parts_text};
@@ -10,7 +10,7 @@ use crate::visible::push_visible;
 use arrayvec::ArrayString;
 use itoa::Buffer;
 use pstore_records::name_text;
-use region_report::push_moment;
+use region_report::{push_long, push_moment};
 use std::alloc::{AllocError, Global};
 use zone_spec::{Name, Time};
 
@@ -23,6 +23,8 @@ pub enum Piece<'a> {
     Foreign(&'a [u8]),
     /// The date and time of day.
     Moment(Time),
+    /// Seconds in larger units, from a minute on.
+    Long(u64),
     /// The name of a record's file.
     Named(Name),
 }
@@ -54,6 +56,16 @@ fn push_time(alloc: Global, out: &mut Vec<u8>, time: Time) -> Result<(), AllocEr
     push_visible(out, text.as_slice())
 }
 
+fn push_units(alloc: Global, out: &mut Vec<u8>, seconds: u64) -> Result<(), AllocError>
+    requires { list_all is_visible out.old.items ≡ true }
+    ensures bytes { OnOk result (out.new.items ≡ out.old.items ++ visible (long_text seconds)) }
+    ensures visible { OnOk result (list_all is_visible out.new.items ≡ true) }
+{
+    let mut text = Vec::new(alloc);
+    push_long(&mut text, seconds)?;
+    push_visible(out, text.as_slice())
+}
+
 fn push_name(out: &mut Vec<u8>, name: Name) -> Result<(), AllocError>
     requires { list_all is_visible out.old.items ≡ true }
     ensures bytes { OnOk result (out.new.items ≡ out.old.items ++ visible (text_of_name name)) }
@@ -74,6 +86,7 @@ fn push_piece(alloc: Global, out: &mut Vec<u8>, piece: Piece<'_>) -> Result<(), 
         Piece::Number(columns, n) => push_filled(out, columns, n),
         Piece::Foreign(bytes) => push_visible(out, bytes),
         Piece::Moment(time) => push_time(alloc, out, time),
+        Piece::Long(seconds) => push_units(alloc, out, seconds),
         Piece::Named(name) => push_name(out, name),
     }
 }

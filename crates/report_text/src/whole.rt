@@ -12,7 +12,7 @@ ghost use Rattle.report_text.specs.Facts.{short_time, short_end, short_parts};
 ghost use Rattle.report_text.specs.Whole.{all_parts, IsTextOf, line_parts, brief_of};
 
 use crate::around::add_around;
-use crate::died::{add_first, no_death_text};
+use crate::died::add_first;
 use crate::earlier::add_others;
 use crate::lines::{add_tail, add_tails};
 use crate::pieces::{Piece, add, render};
@@ -21,7 +21,7 @@ use crate::warned::add_warnings;
 use crate::zones::add_zones;
 use outside::Bytes;
 use region_report::{
-    End, RecordReport, Report, Telling, console, death_told, dump_reason, end_told, newest_dump,
+    End, RecordReport, Report, Telling, console, death_told, end_text, end_told, newest_dump,
     signature_of, warnings_by,
 };
 use std::alloc::{AllocError, Global};
@@ -146,11 +146,14 @@ fn add_short_end(pieces: &mut Vec<Piece<'_>>, end: Option<End<'_>>) -> Result<()
     ensures { OnOk result (parts pieces.new.items ≡ parts pieces.old.items ++ short_end (end_in end.entry)) }
 {
     match end {
-        Some(end) => {
-            let teller: &RecordReport = end.teller;
-            let words = no_death_text(dump_reason(teller.readable()), end.ended.ending);
-            add(pieces, &[Piece::Own("  -  "), Piece::Own(words)])
-        }
+        Some(end) => add(
+            pieces,
+            &[
+                Piece::Own("  -  "),
+                Piece::Own(end_text(&end)),
+                Piece::Own("\n"),
+            ],
+        ),
         None => add(
             pieces,
             &[Piece::Own("  -  no death: no record tells of the kernel\n")],

@@ -2,8 +2,8 @@
 use Rattle.std.proofs.Common.{◌∙◌, ◌++◌, List, ap, sym}
 use Rattle.std.proofs.lemmas.Result.{on_ok_weaker}
 use Rattle.report_html.specs.Pieces.{Part, parts}
-use Rattle.report_html.specs.Died.{when_parts}
-use Rattle.report_html.proofs.died.add_when.Goals as goal
+use Rattle.report_html.specs.Facts.{when_parts}
+use Rattle.report_html.proofs.facts.add_when.Goals as goal
 
 pub returns-in-Some : goal.returns-in-Some
 returns-in-Some c =
