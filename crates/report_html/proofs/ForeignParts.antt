@@ -1,7 +1,7 @@
 -- The foreign parts of a page
 use Rattle.std.proofs.Common.{◌≡◌, ℕ, zero, suc, ◌+◌, ◌<◌, ◌≤◌, ◌==◌, Bool, true, false, cond, nat_lt, List, [], ◌∷◌}
 use Rattle.std.proofs.Common.{◌++◌, length, slice_get, map, take, drop, ◌-◌, ◌*◌, ◌/◌, All, Option, Some, None, codes}
-use Rattle.std.proofs.Common.{append_assoc, refl, sym, ap, ap₂, ◌∙◌, subst, append-nil, get_or, inl, inr, arith}
+use Rattle.std.proofs.Common.{if◌then◌else◌, append_assoc, refl, sym, ap, ap₂, ◌∙◌, subst, append-nil, get_or, inl, inr, arith}
 use Rattle.std.specs.Prelude.{⊤, filter, flat_map}
 use Rattle.std.specs.List.{fold, list_any, zip, prefix_len}
 use Rattle.std.specs.Char.{is_ascii_whitespace}
@@ -51,7 +51,7 @@ use Rattle.report_html.specs.Pictures.{unused_parts, row_parts, zone_parts, draw
 use Rattle.report_html.specs.Pictures.{all_drawn}
 use Rattle.report_html.specs.Before.{told_before, time_after, before_parts, before_bytes}
 use Rattle.report_html.specs.Facts.{when_parts, up_parts, bytes_parts, machine_parts, some_bytes, machine_bytes}
-use Rattle.report_html.specs.Ended.{end_facts, end_parts, end_bytes}
+use Rattle.report_html.specs.Ended.{end_facts, end_parts as ending_parts, end_bytes}
 use Rattle.report_html.specs.Died.{second_parts, said_parts, why_parts, fact_parts}
 use Rattle.report_spec.specs.Excerpts.{place_above, below}
 use Rattle.report_html.specs.Died.{context_parts, rest_parts, around_parts}
@@ -292,7 +292,7 @@ of-death : (signature : List ℕ) (records : List RecordShown) (t : DeathTold)
 of-death signature records t =
     simp (both, of-when, of-up, of-fact, of-bytes, of-before, of-around, append-nil)
 
-of-ending : (t : Option EndTold) → foreign_of (end_parts t) ≡ end_bytes t
+of-ending : (t : Option EndTold) → foreign_of (ending_parts t) ≡ end_bytes t
 of-ending None = refl
 of-ending (Some t) = simp (both, of-when, of-up, of-bytes, append-nil)
 
@@ -463,7 +463,7 @@ joins-context text d h =
     (j d.function)
 
 joins-some : (bytes : List ℕ) → AreBytes bytes → Joins (some_bytes bytes)
-joins-some [] h = joins-none
+joins-some [] h more all = all
 joins-some (b ∷ bs) h more all = onto (b ∷ bs) more (is-text (b ∷ bs) h) all
 
 -- the stamp of a line is a part of its text

@@ -1,6 +1,7 @@
 -- Lemmas on escaped text, runs of blocks, and the pieces of a page. The crate's functions cite
 -- them.
 pub mod ForeignParts
+pub mod FactRows
 pub mod RunsOfBlocks
 pub mod Texts
 pub mod Runs

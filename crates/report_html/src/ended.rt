@@ -68,7 +68,8 @@ fn add_facts<'a>(pieces: &mut Vec<Piece<'a>>, end: &End<'a>) -> Result<(), Alloc
             Piece::Link(teller.name),
             Piece::Own("</td></tr>\n</table>\n</header>\n<main>\n"),
         ],
-    )
+    )?;
+    Ok(())
 }
 
 /// Adds what is known of the end of a log.

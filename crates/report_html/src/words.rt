@@ -11,11 +11,14 @@ pub const NAVIGATION: &str =
     "</h1>\n<nav aria-label=\"Parts of this page\"><a href=\"#records\">Records</a> \
 <a href=\"#region\">Region</a> <a href=\"#layout\">Parameters</a></nav>\n";
 
-/// After the number of records.
-pub const LEVELS: &str = "</h2>\n<p class=\"note\">\
-The number before a line is its level: 0 emergency, 1 alert, 2 critical, 3 error, 4 warning, \
-5 notice, 6 info, 7 debug. A number of 8 or more comes from user space; its level is that number modulo 8. \
-The console keeps no levels.</p>\n";
+/// After the number of records: the key of the levels.
+pub const LEVELS: &str = "</h2>\n<ul class=\"legend log\">\n\
+<li><i class=\"l0\">&lt;0&gt; emergency</i></li>\n<li><i class=\"l1\">&lt;1&gt; alert</i></li>\n\
+<li><i class=\"l2\">&lt;2&gt; critical</i></li>\n<li><i class=\"l3\">&lt;3&gt; error</i></li>\n\
+<li><i class=\"l4\">&lt;4&gt; warning</i></li>\n<li><i class=\"l5\">&lt;5&gt; notice</i></li>\n\
+<li>&lt;6&gt; info</li>\n<li><i class=\"l7\">&lt;7&gt; debug</i></li>\n</ul>\n\
+<p class=\"note\">The number before a line is its level. One of 8 or more comes from user space: its level is the \
+number modulo 8. The console keeps no levels.</p>\n";
 
 pub const END: &str =
     "</main>\n<footer>\n<p>Times are UTC. Text of the region is printable ASCII, tabs and newlines; \

@@ -1,0 +1,17 @@
+-- Rows of bytes that are there
+use Rattle.std.proofs.Common.{◌≡◌, ℕ, false, true, List, [], ◌∷◌, length, codes, refl, ◌==◌}
+use Rattle.report_spec.specs.Facts.{seconds_from}
+use Rattle.report_html.specs.Pieces.{Part, Words, Bytes, Long}
+use Rattle.report_html.specs.Facts.{up_parts, bytes_parts}
+
+pub row_is : (label bytes : List ℕ) → (length bytes == 0) ≡ false
+    → Words (codes "<tr><th scope=\"row\">") ∷ Words label ∷ Words (codes "</th><td>") ∷ Bytes bytes
+    ∷ Words (codes "</td></tr>\n") ∷ [] ≡ bytes_parts label bytes
+row_is label [] e = let n : true ≡ false = e in cc
+row_is label (b ∷ bs) e = refl
+
+pub up_is : (uptime : List ℕ) (n : ℕ) → (length uptime == 0) ≡ false → n ≡ seconds_from 0 uptime
+    → Words (codes "<tr><th scope=\"row\">Up</th><td>") ∷ Bytes uptime ∷ Words (codes " s") ∷ Long n
+    ∷ Words (codes "</td></tr>\n") ∷ [] ≡ up_parts uptime
+up_is [] n e s = let n : true ≡ false = e in cc
+up_is (b ∷ bs) n e s = rw s refl
