@@ -13,7 +13,8 @@ use Rattle.zone_spec.specs.declared.Name.{Name}
 use Rattle.zone_spec.specs.declared.Name.TheVariants.{Dump, Console, Pmsg, Ftrace}
 use Rattle.zone_spec.specs.declared.Time.{Time}
 use Rattle.zone_spec.specs.declared.Zone.{Zone}
-use Rattle.zone_spec.specs.declared.params.Params.{Params}
+use Rattle.report_spec.specs.declared.Division.{Division}
+use Rattle.report_spec.specs.declared.Division.TheVariants.{Region, Storage}
 use Rattle.zone_spec.specs.Parts.{AreBytes}
 use Rattle.zone_spec.specs.Records.{Saved}
 use Rattle.zone_spec.specs.declared.PartState.{PartState}
@@ -333,7 +334,11 @@ of-causes crashes = by (nat_lt 1 (length crashes))
 
 -- ---- the page has its title, those parts, and what people read of its records
 
-of-page : (title : List ℕ) (p : Params) (zones : List Zone) (report : ReportHeld) (told : Option DeathTold)
+of-parameters : (d : Division) → foreign_of (parameters_parts d) ≡ []
+of-parameters (Region p) = refl
+of-parameters (Storage s) = refl
+
+of-page : (title : List ℕ) (p : Division) (zones : List Zone) (report : ReportHeld) (told : Option DeathTold)
     → foreign_of (page_with title p zones report told)
     ≡ title ∷ why_bytes told ++ died_bytes report.records told ++ causes_bytes report.records
     ++ flat_map record_bytes report.records
@@ -362,7 +367,7 @@ of-page title p zones report told =
     (and-of (head ++ why ++ warned) died (title ∷ w) d
     (and-none (head ++ why) warned (title ∷ w) (and-of head why (title ∷ []) w refl (of-why told))
     (of-warnings report told)) (of-died report.records told)) refl) (of-causes (crashes_of report.records)))
-    (of-records (saved report.logs) (are_grouped zones) number None report.records)) (of-picture zones report)) refl)
+    (of-records (saved report.logs) (are_grouped zones) number None report.records)) (of-picture zones report)) (of-parameters p))
     refl
 
 -- ---- each of them is escaped to text
@@ -543,9 +548,9 @@ joins-causes records h = by (nat_lt 1 (length (crashes_of records)))
         (lines-take 15 (firsts_of (crashes_of records)) (lines-firsts (crashes_of records) [] tt (lines-told records h)))
     by false = joins-none
 
-pub without_markup : (title : List ℕ) (p : Params) (zones : List Zone) (report : ReportHeld) (page : List ℕ)
+pub without_markup : (title : List ℕ) (p : Division) (zones : List Zone) (report : ReportHeld) (page : List ℕ)
     → AreBytes title → HoldBytes report.records → AllTellBytes report.records (death_told report.records)
-    → page ≡ parts_text (page_parts title p zones report) → IsWithoutMarkup title report.records page
+    → page ≡ parts_text report.origin (page_parts title p zones report) → IsWithoutMarkup title report.records page
 without_markup title p zones report page bytes hold tells is =
     let records = flat_map record_bytes report.records in
     let lines = causes_bytes report.records in
@@ -553,6 +558,7 @@ without_markup title p zones report page bytes hold tells is =
     let died = died_bytes report.records told in
     let foreign = of-page title p zones report told in
     record {
+      origin = report.origin;
       parts = page_parts title p zones report;
       page_is = is;
       foreign = foreign;

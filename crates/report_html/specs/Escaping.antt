@@ -1,6 +1,7 @@
 -- What of a page is its own, and what comes from elsewhere
 use Rattle.std.specs.Prelude.{◌≡◌, ℕ, List, [], ◌∷◌, flat_map, ◌++◌, slice_get, All, ⊤, Option, Some, None}
 use Rattle.zone_spec.specs.Parts.{AreBytes}
+use Rattle.report_spec.specs.declared.Origin.{Origin}
 use Rattle.report_spec.specs.Escaped.{escaped, IsText}
 use Rattle.report_spec.specs.Packed.{RecordShown, readable}
 use Rattle.report_spec.specs.Deaths.{DeathTold, death_told}
@@ -41,8 +42,9 @@ AllTellBytes records (Some t) = AreBytes (readable t.teller) × TellsBytes (told
 -- the telling lines of dumps, and of each record, in order, parts of the line above it and what people read of it,
 -- each escaped to text without markup. All else are the page's own words and numbers
 pub record IsWithoutMarkup (title : List ℕ) (records : List RecordShown) (page : List ℕ) : Type 0 where
+  pub origin : Origin
   pub parts : List Part
-  pub page_is : page ≡ parts_text parts
+  pub page_is : page ≡ parts_text origin parts
   pub foreign : foreign_of parts
       ≡ title ∷ why_bytes (death_told records) ++ died_bytes records (death_told records) ++ causes_bytes records
       ++ flat_map record_bytes records

@@ -24,9 +24,11 @@ use crate::warnings::add_warnings;
 use crate::words::{END, HEAD, LEVELS, NAVIGATION};
 use outside::Bytes;
 use prz_read::Logs;
-use region_report::{Packing, RecordReport, Report, Telling, death_told, newest_dump};
+use region_report::{
+    Division, Packing, RecordReport, Report, Telling, death_told, newest_dump,
+};
 use std::alloc::{AllocError, Global};
-use zone_spec::{Name, Params, Time, Zone};
+use zone_spec::{Name, Time, Zone};
 
 fn add_length(pieces: &mut Vec<Piece<'_>>, bytes: u64) -> Result<(), AllocError>
     ensures { OnOk result (parts pieces.new.items ≡ parts pieces.old.items ++ length_parts bytes) }
@@ -200,14 +202,14 @@ fn add_heading<'a>(pieces: &mut Vec<Piece<'a>>, title: &'a [u8]) -> Result<(), A
 fn all_pieces<'a>(
     alloc: Global,
     title: &'a [u8],
-    params: &Params,
+    division: &Division,
     zones: &[Zone],
     report: &'a Report,
 ) -> Result<Vec<Piece<'a>>, AllocError>
     ensures bytes { OnOk result (HoldBytes report.entry.now.records) }
     ensures tells { OnOk result (AllTellBytes report.entry.now.records (death_told report.entry.now.records)) }
     ensures parts { IfOk result (λ pieces. parts pieces.items
-        ≡ page_parts title.entry.now params.now zones.now report.entry.now) }
+        ≡ page_parts title.entry.now division.now zones.now report.entry.now) }
 {
     let mut pieces = Vec::new(alloc);
     let told = death_told(report.records());
@@ -219,24 +221,24 @@ fn all_pieces<'a>(
     add_causes(alloc, &mut pieces, report.records())?;
     add_list(&mut pieces, zones, report, told)?;
     add_picture(alloc, &mut pieces, zones, report)?;
-    add_parameters(&mut pieces, params)?;
+    add_parameters(&mut pieces, division)?;
     add(&mut pieces, &[Piece::Own(END)])?;
     Ok(pieces)
 }
 
-/// The page of the report of these parameters and their zones, in ASCII. `title` is what it is headed with, such as the
+/// The page of the report of these zones, divided so, in ASCII. `title` is what it is headed with, such as the
 /// image's path. All bytes that come from the image or the title are escaped, and so make no markup.
 pub fn html(
     alloc: Global,
     title: &[u8],
-    params: &Params,
+    division: &Division,
     zones: &[Zone],
     report: &Report,
 ) -> Result<Vec<u8>, AllocError>
-    ensures page { IfOk result (λ text. text.items ≡ page_of title.now params.now zones.now report.now) }
+    ensures page { IfOk result (λ text. text.items ≡ page_of title.now division.now zones.now report.now) }
     ensures no_markup { IfOk result (λ text. IsWithoutMarkup title.now report.now.records text.items) }
 {
-    let pieces = all_pieces(alloc, title, params, zones, report)?;
-    let text = render(alloc, pieces.as_slice())?;
+    let pieces = all_pieces(alloc, title, division, zones, report)?;
+    let text = render(alloc, report.origin(), pieces.as_slice())?;
     Ok(text)
 }

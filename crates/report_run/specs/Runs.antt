@@ -43,13 +43,13 @@ IsKeptBack other = ⊥
 pub record MakesSome (report : ReportHeld) (before now : Option Files) : Type 0 where
   pub count : ℕ
   pub within : count ≤ length report.records
-  pub made : Makes before now (files_of (take count report.records))
+  pub made : Makes before now (files_of report.origin (take count report.records))
 
 -- ---- one image
 
 -- its records were saved, if that is asked for, and else no file was made
 abbrev pub IsSaved : Bool → ReportHeld → Option Files → Option Files → Type 0
-IsSaved true report before now = Makes before now (files_of report.records)
+IsSaved true report before now = Makes before now (files_of report.origin report.records)
 IsSaved false report before now = now ≡ before
 
 pub record IsDone (asked : Asked) (path : List ℕ) (holds : Option (List ℕ)) (a b : State) : Type 0 where

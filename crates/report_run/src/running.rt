@@ -38,7 +38,7 @@ pub trait Records {
 
     /// Makes a file of each record, in order.
     fn save(&mut self, report: &Report) -> Result<(), Failure>
-        ensures made { MatchResult result (λ _. Makes (made self.old) (made self.new) (files_of report.now.records))
+        ensures made { MatchResult result (λ _. Makes (made self.old) (made self.new) (files_of report.now.origin report.now.records))
             (λ _. MakesSome report.now (made self.old) (made self.new)) }
         ensures why { IfErr result IsKeptBack };
 }
