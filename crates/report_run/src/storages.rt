@@ -54,7 +54,7 @@ pub fn report_storage<O: Sink, E: Sink>(
     out: &mut O,
     messages: &mut Messages<E>,
 ) -> Result<Report, Failure>
-    ensures reported { MatchResult result
+    ensures { MatchResult result
         (IsStorageShown asked.now path.now held.now (O.given out.old) (O.given out.new)
         (seen (E.given messages.old.errors) (E.faults messages.old.errors) messages.old.is_lost)
         (seen (E.given messages.new.errors) (E.faults messages.new.errors) messages.new.is_lost))

@@ -1,11 +1,10 @@
 // A storage in an image.
-ghost use Rattle.std.specs.Prelude.{◌≡◌, ◌<◌, ◌≤◌, ◌^◌, None, length, IfOk, IfErr};
+ghost use Rattle.std.specs.Prelude.{◌≡◌, ◌<◌, ◌≤◌, ◌^◌, None, length, string_bytes, IfOk, IfErr};
 ghost use Rattle.psz_spec.specs.Layouts.{size_fault};
 ghost use Rattle.storage_spec.specs.Found.{whole_pages};
 ghost use Rattle.storage_spec.specs.Told.{storage_lines as lines_by};
 ghost use Rattle.image_file.specs.Loading.{FrontStop};
 ghost use Rattle.storage_report.specs.Held.{IsShownIn, IsHeld};
-ghost use Rattle.std.specs.Prelude.{string_bytes};
 
 use command_spec::Stop;
 use image_file::load_front;
@@ -38,7 +37,8 @@ impl HeldStorage {
 // The whole pages at the front of bytes.
 fn whole_pages(bytes: Vec<u8>) -> Vec<u8>
     requires { length bytes.items < 2 ^ 32 }
-    ensures { result.items ≡ whole_pages bytes.items }
+    ensures pages { result.items ≡ whole_pages bytes.items }
+    ensures short { length result.items < 2 ^ 32 }
 {
     let mut bytes = bytes;
     bytes.truncate(bytes.len() / 4096 * 4096);
@@ -58,6 +58,7 @@ fn shown_in(alloc: Global, bytes: Vec<u8>) -> Result<Option<HeldStorage>, AllocE
 
 /// The storage that the front of an image shows, in whole pages of 4096 bytes and at most 128 MiB: one dump at least
 /// must stand there.
+#[tactic(auto, using(crate::proofs::Fronts::shown_at))]
 pub fn held_storage<M: Load>(alloc: Global, image: &mut M) -> Result<Option<HeldStorage>, Stop>
     ensures held { IfOk result (IsHeld (M.holds image.old)) }
     ensures err { IfErr result (λ s. FrontStop s (M.faults image.old) (M.faults image.new)) }

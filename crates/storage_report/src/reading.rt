@@ -20,6 +20,7 @@ pub struct StorageRead {
 
 /// The report of a storage, with the functions of a map. Each zone's header is read once, each packed dump inflated
 /// once.
+#[tactic(auto, using(crate::proofs::Readings::are_of))]
 pub fn read(
     alloc: Global,
     storage: &Storage,
