@@ -133,11 +133,11 @@ pub report-is : (zones : List Zone) (names image : List ℕ) (spans : List (List
     (records : List RecordShown) → spans ≡ (cut_at zones image).spans → ReadsTo zones spans (length zones) r
     → AreShown zones names (records_held (saved r.logs)) records
     → IsReport zones names image (record {
-        origin = Region;
-        logs = r.logs;
-        parts = r.parts.items;
-        records = records;
-      })
+      origin = Region;
+      logs = r.logs;
+      parts = r.parts.items;
+      records = records;
+    })
 report-is zones names image spans r records same to is = record {
   of_region = refl;
   zones_same = to.zones_same;

@@ -24,9 +24,7 @@ use crate::warnings::add_warnings;
 use crate::words::{END, HEAD, LEVELS, NAVIGATION};
 use outside::Bytes;
 use prz_read::Logs;
-use region_report::{
-    Division, Packing, RecordReport, Report, Telling, death_told, newest_dump,
-};
+use region_report::{Division, Packing, RecordReport, Report, Telling, death_told, newest_dump};
 use std::alloc::{AllocError, Global};
 use zone_spec::{Name, Time, Zone};
 

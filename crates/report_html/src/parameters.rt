@@ -118,10 +118,7 @@ fn add_rows(pieces: &mut Vec<Piece<'_>>, division: &Division) -> Result<(), Allo
 }
 
 /// Adds a table of the parameters.
-pub fn add_parameters(
-    pieces: &mut Vec<Piece<'_>>,
-    division: &Division,
-) -> Result<(), AllocError>
+pub fn add_parameters(pieces: &mut Vec<Piece<'_>>, division: &Division) -> Result<(), AllocError>
     ensures { OnOk result (parts pieces.new.items ≡ parts pieces.old.items ++ parameters_parts division.now) }
 {
     add(pieces, &[Piece::Own(PARAMETERS)])?;

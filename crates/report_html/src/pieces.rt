@@ -26,11 +26,7 @@ pub enum Piece<'a> {
     Link(Name),
 }
 
-fn push_piece(
-    out: &mut Vec<u8>,
-    origin: Origin,
-    piece: Piece<'_>,
-) -> Result<(), AllocError>
+fn push_piece(out: &mut Vec<u8>, origin: Origin, piece: Piece<'_>) -> Result<(), AllocError>
     ensures { OnOk result (out.new.items ≡ out.old.items ++ piece_text origin piece.entry) }
 {
     match piece {
@@ -48,11 +44,7 @@ fn push_piece(
 }
 
 /// The text of the pieces, end to end, with the names that records have there.
-pub fn render(
-    alloc: Global,
-    origin: Origin,
-    pieces: &[Piece<'_>],
-) -> Result<Vec<u8>, AllocError>
+pub fn render(alloc: Global, origin: Origin, pieces: &[Piece<'_>]) -> Result<Vec<u8>, AllocError>
     ensures { IfOk result (λ text. text.items ≡ parts_text origin (parts pieces.now)) }
 {
     let mut out = Vec::new(alloc);

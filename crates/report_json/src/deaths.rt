@@ -123,11 +123,7 @@ fn death_with(
     })
 }
 
-fn told_value(
-    alloc: Global,
-    origin: Origin,
-    told: &Telling<'_>,
-) -> Result<Value, AllocError>
+fn told_value(alloc: Global, origin: Origin, told: &Telling<'_>) -> Result<Value, AllocError>
     ensures { IfOk result (λ v. view v ≡ told_data origin (as_told told.now)) }
 {
     let teller: &RecordReport = told.teller;

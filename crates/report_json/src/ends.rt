@@ -45,12 +45,7 @@ fn reason_value(alloc: Global, reason: Option<DumpReason>) -> Result<Value, Allo
     }
 }
 
-fn end_with(
-    alloc: Global,
-    origin: Origin,
-    text: &[u8],
-    end: &End<'_>,
-) -> Result<Value, AllocError>
+fn end_with(alloc: Global, origin: Origin, text: &[u8], end: &End<'_>) -> Result<Value, AllocError>
     ensures { IfOk result (λ v. view v ≡ end_with origin text.now (as_ended end.now)) }
 {
     let teller: &RecordReport = end.teller;
@@ -65,11 +60,7 @@ fn end_with(
     })
 }
 
-fn ended_value(
-    alloc: Global,
-    origin: Origin,
-    end: Option<End<'_>>,
-) -> Result<Value, AllocError>
+fn ended_value(alloc: Global, origin: Origin, end: Option<End<'_>>) -> Result<Value, AllocError>
     ensures { IfOk result (λ v. view v ≡ ended_data origin (end_in end.entry)) }
 {
     match end {

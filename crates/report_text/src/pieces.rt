@@ -83,11 +83,7 @@ fn push_piece(
 }
 
 /// The text of the pieces, end to end, with the names that records have there.
-pub fn render(
-    alloc: Global,
-    origin: Origin,
-    pieces: &[Piece<'_>],
-) -> Result<Vec<u8>, AllocError>
+pub fn render(alloc: Global, origin: Origin, pieces: &[Piece<'_>]) -> Result<Vec<u8>, AllocError>
     ensures text { IfOk result (λ text. text.items ≡ parts_text origin (parts pieces.now)) }
     ensures visible { IfOk result (λ text. list_all is_visible text.items ≡ true) }
 {

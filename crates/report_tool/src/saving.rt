@@ -24,11 +24,7 @@ pub trait Folder {
         ensures cause { HasCause (faults self.old) (faults self.new) result };
 }
 
-fn save_record<F: Folder>(
-    folder: &mut F,
-    origin: Origin,
-    held: &RecordReport,
-) -> Result<(), Failed>
+fn save_record<F: Folder>(folder: &mut F, origin: Origin, held: &RecordReport) -> Result<(), Failed>
     ensures made { OnOk result (Makes (F.made folder.old) (F.made folder.new)
         ((name_in origin held.now.name, held.now.content) ∷ [])) }
     ensures kept { OnErr result (F.made folder.new ≡ F.made folder.old) }

@@ -13,7 +13,7 @@ use Rattle.storage_report.specs.Reports.{IsRead}
 
 read_len : (machine : Machine) (sizes : Sizes) (image : List ℕ)
     → length (readings_in machine sizes image) ≡ length (zones_in sizes)
-unfolding readings_in, zones_in
+unfolding readings_in zones_in
 read_len machine sizes image =
     length-map (read_order (zones_of sizes)) (reading_in machine image)
     ∙ sym (length-map (read_order (zones_of sizes)) zone_of)

@@ -31,8 +31,12 @@ pub fn read(
     ensures read { IfOk result (IsRead storage.now symbols.now image.now) }
     ensures zones { IfOk result (λ read. AreOf read.zones.items read.report) }
 {
-    let ZonesRead { zones, logs, parts } =
-        read_zones(alloc, storage.machine, &storage.sizes, image)?;
+    let ZonesRead { zones, logs, parts } = read_zones(
+        alloc,
+        storage.machine,
+        &storage.sizes,
+        image,
+    )?;
     let held = held_records(alloc, storage.machine, &storage.sizes, image)?;
     let records = shown_records(alloc, &zones, symbols, held)?;
     let report = Report::of_zones(Origin::Storage, logs, parts, records);
