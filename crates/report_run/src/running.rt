@@ -14,8 +14,8 @@ use region_report::Report;
 use report_entry::Layouts;
 use std::alloc::Global;
 
-/// A layout is looked for in the front of an image that is no file: in so many bytes.
-const MOST: u32 = 16_777_216;
+/// So much is read of an image that is no file and whose layout is looked for: the most that a storage has.
+const MOST: u32 = 134_217_728;
 
 /// Where images are opened.
 pub trait Images {
