@@ -11,5 +11,10 @@ returns c =
       c.in_ok-add_parameter-3.ensures,
       c.in_ok-add_parameter-2.ensures,
       c.in_ok-add_parameter.ensures,
+      c.from-5.ensures,
+      c.from-4.ensures,
+      c.from-3.ensures,
+      c.from-2.ensures,
+      c.from.ensures,
       append_assoc,
     )
