@@ -17,6 +17,7 @@ use Rattle.zone_spec.specs.PartStates.{part_states, zone_bytes}
 use Rattle.region_report.specs.declared.report.Readings.{Readings}
 use Rattle.region_report.specs.Reports.{SpansFit, Adds, ReadsTo, IsReport}
 use Rattle.zone_spec.specs.RecordsHeld.{records_held}
+use Rattle.report_spec.specs.declared.Origin.TheVariants.{Region}
 use Rattle.report_spec.specs.Packed.{RecordShown, AreShown}
 
 get-map : {X Y : Type 0} (f : X → Y) (xs : List X) (i : ℕ) (x : X) → slice_get xs i ≡ Some x
@@ -131,8 +132,14 @@ reads-next zones spans n old new z bytes to ez eb adds = record {
 pub report-is : (zones : List Zone) (names image : List ℕ) (spans : List (List ℕ)) (r : Readings)
     (records : List RecordShown) → spans ≡ (cut_at zones image).spans → ReadsTo zones spans (length zones) r
     → AreShown zones names (records_held (saved r.logs)) records
-    → IsReport zones names image (record { logs = r.logs; parts = r.parts.items; records = records })
+    → IsReport zones names image (record {
+      origin = Region;
+      logs = r.logs;
+      parts = r.parts.items;
+      records = records;
+    })
 report-is zones names image spans r records same to is = record {
+  of_region = refl;
   zones_same = to.zones_same;
   readings_len = to.readings_len;
   parts_len = to.parts_len;

@@ -5,12 +5,15 @@ use Rattle.zone_spec.specs.Reading.{zone_reading}
 use Rattle.prz_read.specs.Saving.{SavedLogs, saved}
 use Rattle.zone_spec.specs.PartStates.{PartStates, part_states, zone_bytes}
 use Rattle.zone_spec.specs.RecordsHeld.{records_held}
+use Rattle.report_spec.specs.declared.Origin.{Origin}
+use Rattle.report_spec.specs.declared.Origin.TheVariants.{Region}
 use Rattle.report_spec.specs.Packed.{RecordShown, AreShown}
 use Rattle.region_report.specs.declared.report.Readings.{Readings}
 
--- what a contract sees of a report: the saved logs of all zones, how the parts of each zone read, and the records as
--- they are shown
+-- what a contract sees of a report: whose records it shows, the saved logs of all zones, how the parts of each zone
+-- read, and the records as they are shown
 pub record ReportHeld : Type 0 where
+  pub origin : Origin
   pub logs : SavedLogs
   pub parts : List PartStates
   pub records : List RecordShown
@@ -40,6 +43,7 @@ pub record ReadsTo (zones : List Zone) (spans : List (List ℕ)) (n : ℕ) (r : 
 -- the report of an image by a layout, with the functions of a map: each zone's reading, how its parts read, and the
 -- records that the readings list, as they are shown
 pub record IsReport (zones : List Zone) (names image : List ℕ) (r : ReportHeld) : Type 0 where
+  pub of_region : r.origin ≡ Region
   pub zones_same : r.logs.zones ≡ zones
   pub readings_len : length r.logs.readings ≡ length zones
   pub parts_len : length r.parts ≡ length zones

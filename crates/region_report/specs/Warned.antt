@@ -16,7 +16,8 @@ teller_bad zones (Some told) = bad_in told.teller.name (zones_counted told.telle
 
 -- the warnings of a report in which this tells why the machine died
 abbrev pub warnings_by : ReportHeld → Option DeathTold → List Warning
-warnings_by report told = warnings_of report.records told (teller_bad (saved report.logs) told) report.parts
+warnings_by report told =
+    warnings_of report.origin report.records told (teller_bad (saved report.logs) told) report.parts
 
 unfoldable pub warnings : ReportHeld → List Warning
 warnings report = warnings_by report (death_told report.records)

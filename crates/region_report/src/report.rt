@@ -13,6 +13,7 @@ use prz_read::{Logs, ZoneParts, read_parts};
 use prz_region::{Region, Span, Spans};
 use pstore_records::held_records;
 use ramoops_layout::types::Layout;
+use report_spec::Origin;
 use std::alloc::{AllocError, Global};
 use std::marker::Model;
 use symbols::Symbols;
@@ -21,6 +22,7 @@ use zone_spec::Zone;
 /// What an image holds.
 #[derive(Drop)]
 pub struct Report {
+    origin: Origin,
     logs: Logs,
     parts: Vec<ZoneParts>,
     records: Vec<RecordReport>,
@@ -32,10 +34,39 @@ impl Model for Report {
 
     ghost Value = { ReportHeld };
 
-    ghost view = { λ r. record { logs = r.logs; parts = r.parts.items; records = r.records.items } };
+    ghost view = { λ r. record {
+      origin = r.origin;
+      logs = r.logs;
+      parts = r.parts.items;
+      records = r.records.items;
+    } };
 }
 
 impl Report {
+    /// The report of zones that read so, with these records.
+    pub fn of_zones(
+        origin: Origin,
+        logs: Logs,
+        parts: Vec<ZoneParts>,
+        records: Vec<RecordReport>,
+    ) -> Report
+        ensures { result ≡ record { origin = origin; logs = logs; parts = parts.items; records = records.items } }
+    {
+        Report {
+            origin,
+            logs,
+            parts,
+            records,
+        }
+    }
+
+    /// Whose records they are.
+    pub fn origin(&self) -> Origin
+        ensures { result ≡ self.now.origin }
+    {
+        self.origin
+    }
+
     /// What the zones hold, in the layout's order.
     pub fn logs(&self) -> &Logs
         ensures { result.now ≡ self.now.logs }
@@ -121,6 +152,7 @@ pub fn report_of_zones(
     let held = held_records(alloc, &logs)?;
     let records = shown_records(alloc, zones, symbols, held)?;
     Ok(Report {
+        origin: Origin::Region,
         logs,
         parts,
         records,

@@ -4,7 +4,7 @@ ghost use Rattle.std.specs.List.{list_any, count_by};
 ghost use Rattle.std.specs.Option.{option_copied};
 ghost use Rattle.prz_read.specs.Saving.{saved};
 ghost use Rattle.report_spec.specs.Warnings.{console_warning, teller_warning, is_bad as is_bad_state, has_bad_header};
-ghost use Rattle.report_spec.specs.Warnings.{headers_warning, has_log, has_bad_part, layout_warning};
+ghost use Rattle.report_spec.specs.Warnings.{headers_warning, has_log, has_bad_part, layout_warning, parts_warnings};
 ghost use Rattle.region_report.specs.Tellers.{told_in};
 ghost use Rattle.region_report.specs.Warned.{teller_bad as teller_bad_of, warnings_by};
 
@@ -14,7 +14,7 @@ use crate::newest::{is_console, newest_dump};
 use crate::report::Report;
 use crate::shown::RecordReport;
 use prz_read::{Logs, ZoneParts};
-use report_spec::Warning;
+use report_spec::{Origin, Warning};
 use std::alloc::{AllocError, Global};
 use zone_spec::PartState;
 
@@ -135,8 +135,7 @@ fn add_layout_warning(
     Ok(())
 }
 
-/// Adds the warnings by how the parts of zones read.
-fn add_parts_warnings(warnings: &mut Vec<Warning>, zones: &[ZoneParts]) -> Result<(), AllocError>
+fn add_zone_warnings(warnings: &mut Vec<Warning>, zones: &[ZoneParts]) -> Result<(), AllocError>
     ensures { OnOk result (warnings.new.items ≡ warnings.old.items
         ++ headers_warning (count_by has_bad_header zones.now)
         ++ layout_warning (count_by has_log zones.now) (count_by has_bad_part zones.now) (length zones.now)) }
@@ -150,6 +149,20 @@ fn add_parts_warnings(warnings: &mut Vec<Warning>, zones: &[ZoneParts]) -> Resul
     )
 }
 
+/// Adds the warnings by how the parts of zones read.
+fn add_parts_warnings(
+    warnings: &mut Vec<Warning>,
+    origin: Origin,
+    zones: &[ZoneParts],
+) -> Result<(), AllocError>
+    ensures { OnOk result (warnings.new.items ≡ warnings.old.items ++ parts_warnings origin zones.now) }
+{
+    match origin {
+        Origin::Region => add_zone_warnings(warnings, zones),
+        Origin::Storage => Ok(()),
+    }
+}
+
 /// The warnings of a report in which this tells why the machine died.
 pub fn warnings_by(
     alloc: Global,
@@ -161,6 +174,6 @@ pub fn warnings_by(
     let mut warnings = Vec::new(alloc);
     add_console_warning(&mut warnings, newest_dump(report.records()), told)?;
     add_teller_warning(&mut warnings, teller_bad(report.logs(), told))?;
-    add_parts_warnings(&mut warnings, report.parts())?;
+    add_parts_warnings(&mut warnings, report.origin(), report.parts())?;
     Ok(warnings)
 }

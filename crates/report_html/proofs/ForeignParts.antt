@@ -14,7 +14,8 @@ use Rattle.zone_spec.specs.declared.Name.{Name}
 use Rattle.zone_spec.specs.declared.Name.TheVariants.{Dump, Console, Pmsg, Ftrace}
 use Rattle.zone_spec.specs.declared.Time.{Time}
 use Rattle.zone_spec.specs.declared.Zone.{Zone}
-use Rattle.zone_spec.specs.declared.params.Params.{Params}
+use Rattle.report_spec.specs.declared.Division.{Division}
+use Rattle.report_spec.specs.declared.Division.TheVariants.{Region, Storage}
 use Rattle.zone_spec.specs.Parts.{AreBytes}
 use Rattle.zone_spec.specs.Records.{Saved}
 use Rattle.zone_spec.specs.declared.PartState.{PartState}
@@ -357,6 +358,10 @@ of-causes crashes = by (nat_lt 1 (length crashes))
 
 -- ---- the page has its name and title, those parts, and what people read of its records
 
+of-parameters : (d : Division) → foreign_of (parameters_parts d) ≡ []
+of-parameters (Region p) = refl
+of-parameters (Storage s) = refl
+
 of-named : (signature : List ℕ) (records : List RecordShown) (told : Option DeathTold)
     → foreign_of (named_parts signature records told) ≡ name_bytes signature told
 of-named signature records None = refl
@@ -378,7 +383,7 @@ of-opening title signature records told =
     (of-why records told)
     ∙ append_assoc n (title ∷ []) (why_bytes told)
 
-of-page : (title : List ℕ) (p : Params) (zones : List Zone) (report : ReportHeld) (signature : List ℕ)
+of-page : (title : List ℕ) (p : Division) (zones : List Zone) (report : ReportHeld) (signature : List ℕ)
     (told : Option DeathTold) → foreign_of (page_with title p zones report signature told)
     ≡ foreign_by title signature report.records told
 of-page title p zones report signature told =
@@ -406,8 +411,8 @@ of-page title p zones report signature told =
     (and-of (opening ++ warned) died w d
     (and-none opening warned w (of-opening title signature report.records told)
     (of-warnings report told)) (of-died signature report.records told)) refl) (of-causes (crashes_of report.records)))
-    (of-records (saved report.logs) (are_grouped zones) number None report.records)) (of-picture zones report)) refl)
-    refl
+    (of-records (saved report.logs) (are_grouped zones) number None report.records)) (of-picture zones report))
+    (of-parameters p)) refl
 
 -- ---- each of them is escaped to text
 
@@ -647,10 +652,10 @@ joins-causes records h = by (nat_lt 1 (length (crashes_of records)))
         (lines-take 15 (firsts_of (crashes_of records)) (lines-firsts (crashes_of records) [] tt (lines-told records h)))
     by false = joins-none
 
-pub without_markup : (title : List ℕ) (p : Params) (zones : List Zone) (report : ReportHeld) (page : List ℕ)
+pub without_markup : (title : List ℕ) (p : Division) (zones : List Zone) (report : ReportHeld) (page : List ℕ)
     → AreBytes title → HoldBytes report.records
     → AllTellBytes (signature_told (death_told report.records)) report.records (death_told report.records)
-    → page ≡ parts_text (page_parts title p zones report) → IsWithoutMarkup title report.records page
+    → page ≡ parts_text report.origin (page_parts title p zones report) → IsWithoutMarkup title report.records page
 without_markup title p zones report page bytes hold tells is =
     let told : Option DeathTold = death_told report.records in
     let signature : List ℕ = signature_told told in
@@ -660,6 +665,7 @@ without_markup title p zones report page bytes hold tells is =
     let l : List (List ℕ) = causes_bytes report.records in
     let foreign = of-page title p zones report signature told in
     record {
+      origin = report.origin;
       parts = page_parts title p zones report;
       page_is = is;
       foreign = foreign;

@@ -1,6 +1,7 @@
 -- What of a page is its own, and what comes from elsewhere
 use Rattle.std.specs.Prelude.{◌≡◌, ℕ, List, [], ◌∷◌, flat_map, ◌++◌, slice_get, All, ⊤, Option, Some, None}
 use Rattle.zone_spec.specs.Parts.{AreBytes}
+use Rattle.report_spec.specs.declared.Origin.{Origin}
 use Rattle.report_spec.specs.Escaped.{escaped, IsText}
 use Rattle.report_spec.specs.Packed.{RecordShown, readable}
 use Rattle.report_spec.specs.Newest.{console_of}
@@ -78,7 +79,8 @@ foreign_told title records told = foreign_by title (signature_told told) records
 -- a page whose foreign bytes are those, each escaped to text without markup. All else are the page's own words and
 -- numbers
 pub record IsWithoutMarkup (title : List ℕ) (records : List RecordShown) (page : List ℕ) : Type 0 where
+  pub origin : Origin
   pub parts : List Part
-  pub page_is : page ≡ parts_text parts
+  pub page_is : page ≡ parts_text origin parts
   pub foreign : foreign_of parts ≡ foreign_told title records (death_told records)
   pub texts : All (λ (bytes : List ℕ). IsText (escaped bytes)) (foreign_of parts)

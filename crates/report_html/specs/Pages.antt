@@ -3,9 +3,9 @@ use Rattle.std.specs.Prelude.{ℕ, Bool, List, [], ◌∷◌, ◌++◌, length, 
 use Rattle.zone_spec.specs.declared.Name.{Name}
 use Rattle.zone_spec.specs.declared.Time.{Time}
 use Rattle.zone_spec.specs.declared.Zone.{Zone}
-use Rattle.zone_spec.specs.declared.params.Params.{Params}
 use Rattle.zone_spec.specs.Records.{Saved}
 use Rattle.prz_read.specs.Saving.{saved}
+use Rattle.report_spec.specs.declared.Division.{Division}
 use Rattle.report_spec.specs.declared.Packing.{Packing}
 use Rattle.report_spec.specs.declared.Packing.TheVariants.{Plain, Whole, Part as PartOfText}
 use Rattle.report_spec.specs.Packed.{RecordShown, fault_words, readable}
@@ -94,19 +94,19 @@ heading_parts title named =
 
 -- the heading, why the machine died, the dumps by telling line, the records, the picture of the zones, and the
 -- parameters
-abbrev pub page_with : List ℕ → Params → List Zone → ReportHeld → List ℕ → Option DeathTold → List Part
-page_with title params zones report signature told =
+abbrev pub page_with : List ℕ → Division → List Zone → ReportHeld → List ℕ → Option DeathTold → List Part
+page_with title division zones report signature told =
     heading_parts title (named_parts signature report.records told) ++ why_parts report.records told
     ++ warnings_parts report told ++ died_parts signature report.records told
     ++ records_opening (length report.records) ++ causes_parts report.records ++ list_parts zones report told
-    ++ picture zones report ++ parameters_parts params ++ Words END.now ∷ []
+    ++ picture zones report ++ parameters_parts division ++ Words END.now ∷ []
 
-abbrev pub page_by : List ℕ → Params → List Zone → ReportHeld → Option DeathTold → List Part
-page_by title params zones report told = page_with title params zones report (signature_told told) told
+abbrev pub page_by : List ℕ → Division → List Zone → ReportHeld → Option DeathTold → List Part
+page_by title division zones report told = page_with title division zones report (signature_told told) told
 
-abbrev pub page_parts : List ℕ → Params → List Zone → ReportHeld → List Part
-page_parts title params zones report = page_by title params zones report (death_told report.records)
+abbrev pub page_parts : List ℕ → Division → List Zone → ReportHeld → List Part
+page_parts title division zones report = page_by title division zones report (death_told report.records)
 
--- the page under this title of the report of these parameters and their zones
-unfoldable pub page_of : List ℕ → Params → List Zone → ReportHeld → List ℕ
-page_of title params zones report = parts_text (page_parts title params zones report)
+-- the page under this title of the report of these zones, divided so
+unfoldable pub page_of : List ℕ → Division → List Zone → ReportHeld → List ℕ
+page_of title division zones report = parts_text report.origin (page_parts title division zones report)

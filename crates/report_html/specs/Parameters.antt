@@ -1,8 +1,11 @@
--- The parameters of a layout, in a table
+-- The parameters of a layout, or the sizes of a storage, in a table
 use Rattle.std.specs.Prelude.{ℕ, List, [], ◌∷◌, ◌++◌, codes}
+use Rattle.psz_spec.specs.declared.Sizes.{Sizes}
 use Rattle.zone_spec.specs.declared.params.Order.{Order}
 use Rattle.zone_spec.specs.declared.params.Params.{Params}
 use Rattle.zone_spec.specs.Orders.{order_text}
+use Rattle.report_spec.specs.declared.Division.{Division}
+use Rattle.report_spec.specs.declared.Division.TheVariants.{Region, Storage}
 use Rattle.report_html.specs.declared.words.TheConstants.{PARAMETERS}
 use Rattle.report_html.specs.Pieces.{Part, Words, Count}
 
@@ -35,8 +38,20 @@ abbrev pub ftrace_rows : Params → List Part
 ftrace_rows p =
     parameter_parts (codes "cpus") p.cpus ++ parameter_parts (codes "ftrace_sig") p.ftrace_sig ++ order_parts p.order
 
+abbrev pub region_rows : Params → List Part
+region_rows p = size_rows p ++ parity_rows p ++ ftrace_rows p
+
+-- in bytes
+abbrev pub storage_rows : Sizes → List Part
+storage_rows s =
+    parameter_parts (codes "total_size") s.total ++ parameter_parts (codes "kmsg_size") s.dump
+    ++ parameter_parts (codes "console_size") s.console ++ parameter_parts (codes "ftrace_size") s.ftrace
+    ++ parameter_parts (codes "pmsg_size") s.pmsg ++ parameter_parts (codes "cpus") s.cpus
+
+abbrev pub division_rows : Division → List Part
+division_rows (Region p) = region_rows p
+division_rows (Storage s) = storage_rows s
+
 -- with a row for each
-abbrev pub parameters_parts : Params → List Part
-parameters_parts p =
-    Words PARAMETERS.now ∷ [] ++ size_rows p ++ parity_rows p ++ ftrace_rows p
-    ++ Words (codes "</table></div>\n") ∷ []
+abbrev pub parameters_parts : Division → List Part
+parameters_parts d = Words PARAMETERS.now ∷ [] ++ division_rows d ++ Words (codes "</table></div>\n") ∷ []

@@ -2,9 +2,10 @@
 use Rattle.std.specs.Prelude.{ℕ, List, ◌++◌, map, flat_map, codes, decimal}
 use Rattle.zone_spec.specs.declared.Name.{Name}
 use Rattle.zone_spec.specs.declared.Time.{Time}
-use Rattle.zone_spec.specs.Names.{name_text}
+use Rattle.report_spec.specs.declared.Origin.{Origin}
 use Rattle.report_spec.specs.Escaped.{escaped}
 use Rattle.report_spec.specs.Moments.{moment_text, long_text}
+use Rattle.report_spec.specs.Origins.{name_in}
 use Rattle.report_html.specs.Logs.{log_text}
 use Rattle.report_html.specs.declared.pieces.Piece.{Piece}
 use Rattle.report_html.specs.declared.pieces.Piece.TheVariants.{Own, Number, Foreign, Moment as MomentPiece}
@@ -24,22 +25,24 @@ pub data Part : Type 0 where
   Named : (name : Name) → Part
   Link : (name : Name) → Part
 
-abbrev pub link_text : Name → List ℕ
-link_text name = codes "<a href=\"#" ++ name_text name ++ codes "\">" ++ name_text name ++ codes "</a>"
+abbrev pub link_text : Origin → Name → List ℕ
+link_text origin name =
+    codes "<a href=\"#" ++ name_in origin name ++ codes "\">" ++ name_in origin name ++ codes "</a>"
 
-abbrev pub part_text : Part → List ℕ
-part_text (Words text) = text
-part_text (Count n) = decimal n
-part_text (Bytes bytes) = escaped bytes
-part_text (Moment time) = moment_text time
-part_text (Long seconds) = long_text seconds
-part_text (Log text) = log_text text
-part_text (Named name) = name_text name
-part_text (Link name) = link_text name
+-- records have the names that they have there
+abbrev pub part_text : Origin → Part → List ℕ
+part_text origin (Words text) = text
+part_text origin (Count n) = decimal n
+part_text origin (Bytes bytes) = escaped bytes
+part_text origin (Moment time) = moment_text time
+part_text origin (Long seconds) = long_text seconds
+part_text origin (Log text) = log_text text
+part_text origin (Named name) = name_in origin name
+part_text origin (Link name) = link_text origin name
 
 -- the text of parts, end to end
-abbrev pub parts_text : List Part → List ℕ
-parts_text parts = flat_map part_text parts
+abbrev pub parts_text : Origin → List Part → List ℕ
+parts_text origin parts = flat_map (part_text origin) parts
 
 -- the part of a page that a piece is
 abbrev pub part_of : Piece → Part
@@ -55,5 +58,5 @@ part_of (LinkPiece name) = Link name
 abbrev pub parts : List Piece → List Part
 parts pieces = map part_of pieces
 
-abbrev pub piece_text : Piece → List ℕ
-piece_text piece = part_text (part_of piece)
+abbrev pub piece_text : Origin → Piece → List ℕ
+piece_text origin piece = part_text origin (part_of piece)

@@ -25,10 +25,11 @@ use crate::words::{END, HEAD, LEVELS, NAVIGATION};
 use outside::Bytes;
 use prz_read::Logs;
 use region_report::{
-    Packing, RecordReport, Report, Telling, death_told, end_told, newest_dump, signature_of,
+    Division, Packing, RecordReport, Report, Telling, death_told, end_told, newest_dump,
+    signature_of,
 };
 use std::alloc::{AllocError, Global};
-use zone_spec::{Name, Params, Time, Zone};
+use zone_spec::{Name, Time, Zone};
 
 fn add_length(pieces: &mut Vec<Piece<'_>>, bytes: u64) -> Result<(), AllocError>
     ensures { OnOk result (parts pieces.new.items ≡ parts pieces.old.items ++ length_parts bytes) }
@@ -230,7 +231,7 @@ fn add_heading<'a>(
 fn all_pieces<'a>(
     alloc: Global,
     title: &'a [u8],
-    params: &Params,
+    division: &Division,
     zones: &[Zone],
     report: &'a Report,
     signature: &'a [u8],
@@ -239,7 +240,7 @@ fn all_pieces<'a>(
     ensures bytes { OnOk result (HoldBytes report.entry.now.records) }
     ensures tells { OnOk result (AllTellBytes signature.entry.now report.entry.now.records (told_in told.entry)) }
     ensures parts { IfOk result (λ pieces. parts pieces.items
-        ≡ page_with title.entry.now params.now zones.now report.entry.now signature.entry.now (told_in told.entry)) }
+        ≡ page_with title.entry.now division.now zones.now report.entry.now signature.entry.now (told_in told.entry)) }
 {
     let mut pieces = Vec::new(alloc);
     add_heading(&mut pieces, title, signature, report.records(), told)?;
@@ -250,21 +251,21 @@ fn all_pieces<'a>(
     add_causes(alloc, &mut pieces, report.records())?;
     add_list(&mut pieces, zones, report, told)?;
     add_picture(alloc, &mut pieces, zones, report)?;
-    add_parameters(&mut pieces, params)?;
+    add_parameters(&mut pieces, division)?;
     add(&mut pieces, &[Piece::Own(END)])?;
     Ok(pieces)
 }
 
-/// The page of the report of these parameters and their zones, in ASCII. `title` is what it is headed with, such as the
+/// The page of the report of these zones, divided so, in ASCII. `title` is what it is headed with, such as the
 /// image's path. All bytes that come from the image or the title are escaped, and so make no markup.
 pub fn html(
     alloc: Global,
     title: &[u8],
-    params: &Params,
+    division: &Division,
     zones: &[Zone],
     report: &Report,
 ) -> Result<Vec<u8>, AllocError>
-    ensures page { IfOk result (λ text. text.items ≡ page_of title.now params.now zones.now report.now) }
+    ensures page { IfOk result (λ text. text.items ≡ page_of title.now division.now zones.now report.now) }
     ensures no_markup { IfOk result (λ text. IsWithoutMarkup title.now report.now.records text.items) }
 {
     let told = death_told(report.records());
@@ -272,12 +273,12 @@ pub fn html(
     let pieces = all_pieces(
         alloc,
         title,
-        params,
+        division,
         zones,
         report,
         signature.as_slice(),
         told,
     )?;
-    let text = render(alloc, pieces.as_slice())?;
+    let text = render(alloc, report.origin(), pieces.as_slice())?;
     Ok(text)
 }

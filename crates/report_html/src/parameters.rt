@@ -1,11 +1,13 @@
-// The parameters of a layout.
+// The parameters of a layout, or the sizes of a storage.
 ghost use Rattle.std.specs.Prelude.{◌≡◌, ◌++◌, OnOk};
 ghost use Rattle.report_html.specs.Pieces.{parts};
 ghost use Rattle.report_html.specs.Parameters.{parameter_parts, size_rows, parity_rows, ftrace_rows, text_parts, order_parts};
-ghost use Rattle.report_html.specs.Parameters.{parameters_parts};
+ghost use Rattle.report_html.specs.Parameters.{region_rows, storage_rows, division_rows, parameters_parts};
 
 use crate::pieces::{Piece, add};
 use crate::words::PARAMETERS;
+use psz_spec::Sizes;
+use region_report::Division;
 use std::alloc::AllocError;
 use zone_spec::{Order, Params};
 
@@ -85,14 +87,42 @@ fn add_ftrace(pieces: &mut Vec<Piece<'_>>, params: &Params) -> Result<(), AllocE
     Ok(())
 }
 
-/// Adds a table of the parameters.
-pub fn add_parameters(pieces: &mut Vec<Piece<'_>>, params: &Params) -> Result<(), AllocError>
-    ensures { OnOk result (parts pieces.new.items ≡ parts pieces.old.items ++ parameters_parts params.now) }
+fn add_region(pieces: &mut Vec<Piece<'_>>, params: &Params) -> Result<(), AllocError>
+    ensures { OnOk result (parts pieces.new.items ≡ parts pieces.old.items ++ region_rows params.now) }
 {
-    add(pieces, &[Piece::Own(PARAMETERS)])?;
     add_sizes(pieces, params)?;
     add_parity(pieces, params)?;
     add_ftrace(pieces, params)?;
+    Ok(())
+}
+
+fn add_storage(pieces: &mut Vec<Piece<'_>>, sizes: &Sizes) -> Result<(), AllocError>
+    ensures { OnOk result (parts pieces.new.items ≡ parts pieces.old.items ++ storage_rows sizes.now) }
+{
+    add_parameter(pieces, "total_size", sizes.total)?;
+    add_parameter(pieces, "kmsg_size", u64::from(sizes.dump))?;
+    add_parameter(pieces, "console_size", u64::from(sizes.console))?;
+    add_parameter(pieces, "ftrace_size", u64::from(sizes.ftrace))?;
+    add_parameter(pieces, "pmsg_size", u64::from(sizes.pmsg))?;
+    add_parameter(pieces, "cpus", u64::from(sizes.cpus))?;
+    Ok(())
+}
+
+fn add_rows(pieces: &mut Vec<Piece<'_>>, division: &Division) -> Result<(), AllocError>
+    ensures { OnOk result (parts pieces.new.items ≡ parts pieces.old.items ++ division_rows division.now) }
+{
+    match division {
+        Division::Region(params) => add_region(pieces, params),
+        Division::Storage(sizes) => add_storage(pieces, sizes),
+    }
+}
+
+/// Adds a table of the parameters.
+pub fn add_parameters(pieces: &mut Vec<Piece<'_>>, division: &Division) -> Result<(), AllocError>
+    ensures { OnOk result (parts pieces.new.items ≡ parts pieces.old.items ++ parameters_parts division.now) }
+{
+    add(pieces, &[Piece::Own(PARAMETERS)])?;
+    add_rows(pieces, division)?;
     add(pieces, &[Piece::Own("</table></div>\n")])?;
     Ok(())
 }

@@ -6,7 +6,7 @@ use crate::escaping::push_escaped;
 use crate::logs::push_log;
 use crate::names::{push_link, push_name};
 use itoa::Buffer;
-use region_report::{push_long, push_moment};
+use region_report::{Origin, push_long, push_moment};
 use std::alloc::{AllocError, Global};
 use zone_spec::{Name, Time};
 
@@ -28,8 +28,8 @@ pub enum Piece<'a> {
     Link(Name),
 }
 
-fn push_piece(out: &mut Vec<u8>, piece: Piece<'_>) -> Result<(), AllocError>
-    ensures { OnOk result (out.new.items ≡ out.old.items ++ piece_text piece.entry) }
+fn push_piece(out: &mut Vec<u8>, origin: Origin, piece: Piece<'_>) -> Result<(), AllocError>
+    ensures { OnOk result (out.new.items ≡ out.old.items ++ piece_text origin piece.entry) }
 {
     match piece {
         Piece::Own(text) => out.extend_from_slice(text.as_bytes()),
@@ -41,18 +41,18 @@ fn push_piece(out: &mut Vec<u8>, piece: Piece<'_>) -> Result<(), AllocError>
         Piece::Moment(time) => push_moment(out, time),
         Piece::Long(seconds) => push_long(out, seconds),
         Piece::Log(text) => push_log(out, text),
-        Piece::Named(name) => push_name(out, name),
-        Piece::Link(name) => push_link(out, name),
+        Piece::Named(name) => push_name(out, origin, name),
+        Piece::Link(name) => push_link(out, origin, name),
     }
 }
 
-/// The text of the pieces, end to end.
-pub fn render(alloc: Global, pieces: &[Piece<'_>]) -> Result<Vec<u8>, AllocError>
-    ensures { IfOk result (λ text. text.items ≡ parts_text (parts pieces.now)) }
+/// The text of the pieces, end to end, with the names that records have there.
+pub fn render(alloc: Global, origin: Origin, pieces: &[Piece<'_>]) -> Result<Vec<u8>, AllocError>
+    ensures { IfOk result (λ text. text.items ≡ parts_text origin (parts pieces.now)) }
 {
     let mut out = Vec::new(alloc);
     for piece in pieces {
-        push_piece(&mut out, *piece)?;
+        push_piece(&mut out, origin, *piece)?;
     }
     Ok(out)
 }

@@ -20,7 +20,6 @@ use Rattle.zone_spec.specs.declared.Words.{Words}
 use Rattle.zone_spec.specs.declared.Zone.{Zone}
 use Rattle.zone_spec.specs.declared.ZoneName.{ZoneName}
 use Rattle.zone_spec.specs.declared.params.Params.{Params}
-use Rattle.zone_spec.specs.Names.{name_text}
 use Rattle.zone_spec.specs.Reading.{ZoneReading}
 use Rattle.zone_spec.specs.Records.{Saved}
 use Rattle.prz_read.specs.Saving.{saved}
@@ -37,6 +36,11 @@ use Rattle.death_spec.specs.declared.Ending.TheVariants.{Restarted, SwitchedOff,
 use Rattle.zone_spec.specs.declared.PartState.{PartState}
 use Rattle.zone_spec.specs.declared.PartState.TheVariants.{Read, Bad}
 use Rattle.zone_spec.specs.PartStates.{PartStates}
+use Rattle.psz_spec.specs.declared.Sizes.{Sizes}
+use Rattle.report_spec.specs.declared.Division.{Division}
+use Rattle.report_spec.specs.declared.Division.TheVariants.{Region, Storage}
+use Rattle.report_spec.specs.declared.Origin.{Origin}
+use Rattle.report_spec.specs.Origins.{name_in}
 use Rattle.report_spec.specs.declared.Packing.{Packing}
 use Rattle.report_spec.specs.declared.Packing.TheVariants.{Plain, Whole, Part}
 use Rattle.report_spec.specs.Packed.{RecordShown, fault_words, readable}
@@ -71,6 +75,20 @@ parameters_data p = object (
     member (codes "mem_size") (count p.mem) (
     member (codes "pmsg_size") (count p.pmsg) (
     member (codes "record_size") (count p.dump) no_members)))))))))))))
+
+-- in bytes
+abbrev pub sizes_data : Sizes → Data
+sizes_data s = object (
+    member (codes "console_size") (count s.console) (
+    member (codes "cpus") (count s.cpus) (
+    member (codes "ftrace_size") (count s.ftrace) (
+    member (codes "kmsg_size") (count s.dump) (
+    member (codes "pmsg_size") (count s.pmsg) (
+    member (codes "total_size") (count s.total) no_members))))))
+
+abbrev pub division_data : Division → Data
+division_data (Region p) = parameters_data p
+division_data (Storage s) = sizes_data s
 
 -- the corrected bytes of a header or block, 0 where it is clean; or the word bad
 abbrev pub part_data : PartState → Data
@@ -172,46 +190,46 @@ entries_data bytes [] = null
 entries_data bytes (e ∷ es) = array (items_of (map (entry_data bytes) (e ∷ es)))
 
 -- a record of these counts, packing and contents
-abbrev pub record_of : Name → ℕ → ℕ → Bool → Data → Data → Data → Data → Data → Data → Data
-record_of name bad corrected compressed time taken fault entries text base64 = object (
+abbrev pub record_of : Origin → Name → ℕ → ℕ → Bool → Data → Data → Data → Data → Data → Data → Data
+record_of origin name bad corrected compressed time taken fault entries text base64 = object (
     member (codes "bad") (count bad) (
     member (codes "base64") base64 (
     member (codes "compressed") (boolean compressed) (
     member (codes "corrected") (count corrected) (
     member (codes "entries") entries (
     member (codes "fault") fault (
-    member (codes "name") (string (name_text name)) (
+    member (codes "name") (string (name_in origin name)) (
     member (codes "taken") taken (
     member (codes "text") text (
     member (codes "time") time no_members))))))))))
 
 -- a record with what is shown of it: entries, text, and base64
-abbrev pub record_by : List Saved → RecordShown → Data → Data → Data → Data
-record_by zones r entries text base64 =
-    record_of r.name (bad_in r.name (zones_counted r.name zones)) (corrected_in r.name (zones_counted r.name zones))
+abbrev pub record_by : Origin → List Saved → RecordShown → Data → Data → Data → Data
+record_by origin zones r entries text base64 =
+    record_of origin r.name (bad_in r.name (zones_counted r.name zones)) (corrected_in r.name (zones_counted r.name zones))
     (is_packed r.packing) (time_data r.time) (taken_data r.packing) (fault_data r.packing) entries text base64
 
-abbrev pub record_with : List Saved → RecordShown → Data → Data → Data
-record_with zones r text base64 = record_by zones r (entries_data r.content r.entries) text base64
+abbrev pub record_with : Origin → List Saved → RecordShown → Data → Data → Data
+record_with origin zones r text base64 = record_by origin zones r (entries_data r.content r.entries) text base64
 
 -- the content is text where it is UTF-8, else in base64
-unfoldable pub content_data : List Saved → RecordShown → Data
-content_data zones r =
-    if is_utf8 r.content then record_with zones r (string r.content) null
-    else record_with zones r null (string (encode_of standard r.content))
+unfoldable pub content_data : Origin → List Saved → RecordShown → Data
+content_data origin zones r =
+    if is_utf8 r.content then record_with origin zones r (string r.content) null
+    else record_with origin zones r null (string (encode_of standard r.content))
 
 -- of a text up to a fault, the longest front that is UTF-8; and the content as it stands, in base64
-abbrev pub part_data_of : List Saved → RecordShown → List ℕ → Data
-part_data_of zones r text =
-    record_with zones r (string (take (utf8_valid_len text) text)) (string (encode_of standard r.content))
+abbrev pub part_data_of : Origin → List Saved → RecordShown → List ℕ → Data
+part_data_of origin zones r text =
+    record_with origin zones r (string (take (utf8_valid_len text) text)) (string (encode_of standard r.content))
 
-abbrev pub data_by : Packing (List ℕ) → List Saved → RecordShown → Data
-data_by Plain zones r = content_data zones r
-data_by (Whole taken) zones r = content_data zones r
-data_by (Part fault text) zones r = part_data_of zones r text
+abbrev pub data_by : Origin → Packing (List ℕ) → List Saved → RecordShown → Data
+data_by origin Plain zones r = content_data origin zones r
+data_by origin (Whole taken) zones r = content_data origin zones r
+data_by origin (Part fault text) zones r = part_data_of origin zones r text
 
-unfoldable pub record_data : List Saved → RecordShown → Data
-record_data zones r = data_by r.packing zones r
+unfoldable pub record_data : Origin → List Saved → RecordShown → Data
+record_data origin zones r = data_by origin r.packing zones r
 
 -- the value of the zone at a place
 abbrev pub IsZoneAt : List Zone → List (Option ZoneReading) → List PartStates → ℕ → Data → Type 0
@@ -249,26 +267,26 @@ bytes_data [] = null
 bytes_data (b ∷ bs) = front_data (b ∷ bs)
 
 -- why the machine died by a record's text, with the record's name and the call trace
-abbrev pub death_with : List ℕ → Name → Death → Data → Data
-death_with text name death trace = object (
+abbrev pub death_with : Origin → List ℕ → Name → Death → Data → Data
+death_with origin text name death trace = object (
     member (codes "cpu") (named_data text death.cpu) (
     member (codes "function") (named_data text death.function) (
     member (codes "is_next") (boolean death.is_next) (
     member (codes "kernel") (named_data text death.kernel) (
     member (codes "line") (said_data text death.telling) (
-    member (codes "record") (string (name_text name)) (
+    member (codes "record") (string (name_in origin name)) (
     member (codes "second") (second_data text death.second) (
     member (codes "task") (named_data text death.task) (
     member (codes "trace") trace (
     member (codes "uptime") (bytes_data (uptime_of text death.telling)) no_members))))))))))
 
-abbrev pub told_data : DeathTold → Data
-told_data t = death_with (readable t.teller) t.teller.name t.death (trace_data (readable t.teller))
+abbrev pub told_data : Origin → DeathTold → Data
+told_data origin t = death_with origin (readable t.teller) t.teller.name t.death (trace_data (readable t.teller))
 
 -- null where no record tells
-abbrev pub death_data : Option DeathTold → Data
-death_data None = null
-death_data (Some t) = told_data t
+abbrev pub death_data : Origin → Option DeathTold → Data
+death_data origin None = null
+death_data origin (Some t) = told_data origin t
 
 abbrev pub machine_with : MachineTold → Data
 machine_with m = object (
@@ -308,21 +326,21 @@ reason_data None = null
 reason_data (Some reason) = string (reason_text reason)
 
 -- how a log ends: the ending, the last line of the kernel's, what the head of a dump says, and the record
-abbrev pub end_with : List ℕ → EndTold → Data
-end_with text t = object (
+abbrev pub end_with : Origin → List ℕ → EndTold → Data
+end_with origin text t = object (
     member (codes "ending") (string (ending_text t.ended.ending)) (
     member (codes "line") (said_data text t.ended.line) (
     member (codes "reason") (reason_data (reason_of text)) (
-    member (codes "record") (string (name_text t.teller.name)) no_members))))
+    member (codes "record") (string (name_in origin t.teller.name)) no_members))))
 
-abbrev pub ended_data : Option EndTold → Data
-ended_data None = null
-ended_data (Some t) = end_with (readable t.teller) t
+abbrev pub ended_data : Origin → Option EndTold → Data
+ended_data origin None = null
+ended_data origin (Some t) = end_with origin (readable t.teller) t
 
 -- null where a record tells why the machine died
-abbrev pub end_data : List RecordShown → Option DeathTold → Data
-end_data records None = ended_data (end_told records)
-end_data records (Some t) = null
+abbrev pub end_data : Origin → List RecordShown → Option DeathTold → Data
+end_data origin records None = ended_data origin (end_told records)
+end_data origin records (Some t) = null
 
 -- ---- warnings
 
@@ -333,15 +351,15 @@ warning_with code n about = object (
     member (codes "count") n (
     member (codes "record") about no_members)))
 
-abbrev pub warning_data : Warning → Data
-warning_data (ConsoleTells dump) = warning_with (codes "console_tells") null (string (name_text dump))
-warning_data (BadTeller bad) = warning_with (codes "bad_teller") (count bad) null
-warning_data (BadHeaders headers) = warning_with (codes "bad_headers") (count headers) null
-warning_data NoLog = warning_with (codes "no_log") null null
-warning_data (ManyBad zones) = warning_with (codes "many_bad") (count zones) null
+abbrev pub warning_data : Origin → Warning → Data
+warning_data origin (ConsoleTells dump) = warning_with (codes "console_tells") null (string (name_in origin dump))
+warning_data origin (BadTeller bad) = warning_with (codes "bad_teller") (count bad) null
+warning_data origin (BadHeaders headers) = warning_with (codes "bad_headers") (count headers) null
+warning_data origin NoLog = warning_with (codes "no_log") null null
+warning_data origin (ManyBad zones) = warning_with (codes "many_bad") (count zones) null
 
-abbrev pub warnings_data : List Warning → Data
-warnings_data warnings = array (items_of (map warning_data warnings))
+abbrev pub warnings_data : Origin → List Warning → Data
+warnings_data origin warnings = array (items_of (map (warning_data origin) warnings))
 
 -- ---- the line
 
@@ -368,23 +386,23 @@ line_with a path parameters records zones = object (
 
 abbrev pub answers_by : ReportHeld → Option DeathTold → Answers
 answers_by report told = record {
-  death = death_data told;
-  end = end_data report.records told;
+  death = death_data report.origin told;
+  end = end_data report.origin report.records told;
   machine = machine_data report.records told;
   signature = bytes_data (signature_told told);
-  warnings = warnings_data (warnings_by report told);
+  warnings = warnings_data report.origin (warnings_by report told);
 }
 
-abbrev pub line_data : ReportHeld → List ℕ → Params → List Data → List Data → Data
-line_data report path params zones records =
-    line_with (answers_by report (death_told report.records)) path (parameters_data params) (array (items_of records))
+abbrev pub line_data : ReportHeld → List ℕ → Division → List Data → List Data → Data
+line_data report path division zones records =
+    line_with (answers_by report (death_told report.records)) path (division_data division) (array (items_of records))
     (array (items_of zones))
 
 -- the line of a report: the tokens of this data, in order, with nothing between them
-pub record IsLine (path : List ℕ) (params : Params) (zones : List Zone) (report : ReportHeld) (text : List ℕ)
+pub record IsLine (path : List ℕ) (division : Division) (zones : List Zone) (report : ReportHeld) (text : List ℕ)
     : Type 0 where
   pub values : List Data
   pub each_zone : AreZones zones report.logs.readings report.parts (length zones) values
-  pub in_order : IsInOrder text (line_data report path params values
-      (map (record_data (saved report.logs)) report.records))
+  pub in_order : IsInOrder text (line_data report path division values
+      (map (record_data report.origin (saved report.logs)) report.records))
   pub compact : text ≡ print (tokens text)

@@ -1,7 +1,7 @@
 // The value of why the machine died.
 ghost use Rattle.std.specs.Prelude.{◌≡◌, map, IfOk};
 ghost use Rattle.serde_json.specs.View.{view};
-ghost use Rattle.zone_spec.specs.Names.{name_text as text_of_name};
+ghost use Rattle.report_spec.specs.Origins.{name_in};
 ghost use Rattle.serde_json.specs.Data.{string};
 ghost use Rattle.region_report.specs.Tellers.{as_told, told_in};
 ghost use Rattle.report_json.specs.Schema.{front_data, span_data, named_data, said_data, second_data, trace_data};
@@ -11,8 +11,7 @@ use crate::records::utf8_front;
 use arrayvec::ArrayString;
 use death::{part, trace};
 use death_spec::{Death, Line, Span};
-use pstore_records::name_text;
-use region_report::{RecordReport, Telling, uptime};
+use region_report::{Origin, RecordReport, Telling, file_name, uptime};
 use serde_json::{Value, json};
 use std::alloc::{AllocError, Global};
 use zone_spec::Name;
@@ -84,24 +83,25 @@ pub fn bytes_value(alloc: Global, bytes: &[u8]) -> Result<Value, AllocError>
 }
 
 /// The name of a record.
-pub fn name_value(alloc: Global, name: Name) -> Result<Value, AllocError>
-    ensures { IfOk result (λ v. view v ≡ string (text_of_name name)) }
+pub fn name_value(alloc: Global, origin: Origin, name: Name) -> Result<Value, AllocError>
+    ensures { IfOk result (λ v. view v ≡ string (name_in origin name)) }
 {
     let mut text = ArrayString::new();
-    name_text(name, &mut text);
+    file_name(origin, name, &mut text);
     Value::try_from_str(alloc, text.as_str())
 }
 
 fn death_with(
     alloc: Global,
+    origin: Origin,
     text: &[u8],
     name: Name,
     death: Death,
     trace: Value,
 ) -> Result<Value, AllocError>
-    ensures { IfOk result (λ v. view v ≡ death_with text.now name death (view trace)) }
+    ensures { IfOk result (λ v. view v ≡ death_with origin text.now name death (view trace)) }
 {
-    let record_name = name_value(alloc, name)?;
+    let record_name = name_value(alloc, origin, name)?;
     let cpu = named_value(alloc, text, death.cpu)?;
     let function = named_value(alloc, text, death.function)?;
     let kernel = named_value(alloc, text, death.kernel)?;
@@ -123,22 +123,26 @@ fn death_with(
     })
 }
 
-fn told_value(alloc: Global, told: &Telling<'_>) -> Result<Value, AllocError>
-    ensures { IfOk result (λ v. view v ≡ told_data (as_told told.now)) }
+fn told_value(alloc: Global, origin: Origin, told: &Telling<'_>) -> Result<Value, AllocError>
+    ensures { IfOk result (λ v. view v ≡ told_data origin (as_told told.now)) }
 {
     let teller: &RecordReport = told.teller;
     let text = teller.readable();
     let trace = trace_value(alloc, text)?;
-    death_with(alloc, text, teller.name, told.death, trace)
+    death_with(alloc, origin, text, teller.name, told.death, trace)
 }
 
 /// Why the machine died, as one of the records tells it, or null. Text that is no UTF-8 is cut before the first byte
 /// that isn't.
-pub fn death_value(alloc: Global, told: Option<Telling<'_>>) -> Result<Value, AllocError>
-    ensures { IfOk result (λ v. view v ≡ death_data (told_in told.entry)) }
+pub fn death_value(
+    alloc: Global,
+    origin: Origin,
+    told: Option<Telling<'_>>,
+) -> Result<Value, AllocError>
+    ensures { IfOk result (λ v. view v ≡ death_data origin (told_in told.entry)) }
 {
     match told {
-        Some(told) => told_value(alloc, &told),
+        Some(told) => told_value(alloc, origin, &told),
         None => Ok(Value::Null),
     }
 }

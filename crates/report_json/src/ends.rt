@@ -7,7 +7,7 @@ ghost use Rattle.report_json.specs.Schema.{end_with, ended_data, end_data};
 
 use crate::deaths::{name_value, said_value};
 use death_spec::Ending;
-use region_report::{DumpReason, End, RecordReport, Telling, dump_reason, end_told};
+use region_report::{DumpReason, End, Origin, RecordReport, Telling, dump_reason, end_told};
 use serde_json::{Value, json};
 use std::alloc::{AllocError, Global};
 
@@ -45,13 +45,13 @@ fn reason_value(alloc: Global, reason: Option<DumpReason>) -> Result<Value, Allo
     }
 }
 
-fn end_with(alloc: Global, text: &[u8], end: &End<'_>) -> Result<Value, AllocError>
-    ensures { IfOk result (λ v. view v ≡ end_with text.now (as_ended end.now)) }
+fn end_with(alloc: Global, origin: Origin, text: &[u8], end: &End<'_>) -> Result<Value, AllocError>
+    ensures { IfOk result (λ v. view v ≡ end_with origin text.now (as_ended end.now)) }
 {
     let teller: &RecordReport = end.teller;
     let line = said_value(alloc, text, end.ended.line)?;
     let reason = reason_value(alloc, dump_reason(text))?;
-    let name = name_value(alloc, teller.name)?;
+    let name = name_value(alloc, origin, teller.name)?;
     json!(in alloc; {
         "ending": ending_text(end.ended.ending),
         "line": line,
@@ -60,13 +60,13 @@ fn end_with(alloc: Global, text: &[u8], end: &End<'_>) -> Result<Value, AllocErr
     })
 }
 
-fn ended_value(alloc: Global, end: Option<End<'_>>) -> Result<Value, AllocError>
-    ensures { IfOk result (λ v. view v ≡ ended_data (end_in end.entry)) }
+fn ended_value(alloc: Global, origin: Origin, end: Option<End<'_>>) -> Result<Value, AllocError>
+    ensures { IfOk result (λ v. view v ≡ ended_data origin (end_in end.entry)) }
 {
     match end {
         Some(end) => {
             let teller: &RecordReport = end.teller;
-            end_with(alloc, teller.readable(), &end)
+            end_with(alloc, origin, teller.readable(), &end)
         }
         None => Ok(Value::Null),
     }
@@ -75,13 +75,14 @@ fn ended_value(alloc: Global, end: Option<End<'_>>) -> Result<Value, AllocError>
 /// How the log ends, if no record tells why the machine died, or null.
 pub fn end_value(
     alloc: Global,
+    origin: Origin,
     records: &[RecordReport],
     told: Option<Telling<'_>>,
 ) -> Result<Value, AllocError>
-    ensures { IfOk result (λ v. view v ≡ end_data records.now (told_in told.entry)) }
+    ensures { IfOk result (λ v. view v ≡ end_data origin records.now (told_in told.entry)) }
 {
     match told {
         Some(_) => Ok(Value::Null),
-        None => ended_value(alloc, end_told(records)),
+        None => ended_value(alloc, origin, end_told(records)),
     }
 }

@@ -10,11 +10,11 @@ use crate::ends::end_value;
 use crate::machines::{machine_value, signature_value};
 use crate::records::record_values;
 use crate::warned::warnings_value;
-use crate::zones::{parameters_value, zone_values};
-use region_report::{Report, death_told};
+use crate::zones::{division_value, zone_values};
+use region_report::{Division, Report, death_told};
 use serde_json::{Value, json};
 use std::alloc::{AllocError, Global};
-use zone_spec::{Params, Zone};
+use zone_spec::Zone;
 
 /// The number of the schema that docs/REPORT.md describes.
 const SCHEMA: u32 = 2;
@@ -34,8 +34,8 @@ fn answer_of(alloc: Global, report: &Report) -> Result<Answer, AllocError>
 {
     let records = report.records();
     let told = death_told(records);
-    let death = death_value(alloc, told)?;
-    let end = end_value(alloc, records, told)?;
+    let death = death_value(alloc, report.origin(), told)?;
+    let end = end_value(alloc, report.origin(), records, told)?;
     let machine = machine_value(alloc, records, told)?;
     let signature = signature_value(alloc, told)?;
     let warnings = warnings_value(alloc, report, told)?;
@@ -77,16 +77,16 @@ fn line_value(
 pub fn json(
     alloc: Global,
     path: &str,
-    params: &Params,
+    division: &Division,
     zones: &[Zone],
     report: &Report,
 ) -> Result<String, AllocError>
     requires readings { length report.now.logs.readings ≡ length zones.now }
     requires parts { length report.now.parts ≡ length zones.now }
-    ensures { IfOk result (λ text. IsLine path.now params.now zones.now report.now (string_bytes text)) }
+    ensures { IfOk result (λ text. IsLine path.now division.now zones.now report.now (string_bytes text)) }
 {
-    let parameters = parameters_value(alloc, params)?;
-    let record_list = record_values(alloc, report.logs(), report.records())?;
+    let parameters = division_value(alloc, division)?;
+    let record_list = record_values(alloc, report.origin(), report.logs(), report.records())?;
     let records = Value::from(record_list);
     let zone_list = zone_values(alloc, zones, report.logs(), report.parts())?;
     let zones = Value::from(zone_list);

@@ -13,8 +13,8 @@ use base64::engine::general_purpose::STANDARD;
 use outside::Bytes;
 use pmsg::{Entry, payload, split_payload};
 use prz_read::Logs;
-use pstore_records::{Counts, name_text};
-use region_report::{Packing, RecordReport, counts};
+use pstore_records::Counts;
+use region_report::{Origin, Packing, RecordReport, counts, file_name};
 use serde_json::{Value, json};
 use simdutf8::compat::from_utf8;
 use std::alloc::{AllocError, Global};
@@ -112,13 +112,18 @@ struct Members {
     base64: Value,
 }
 
-fn record_of(alloc: Global, name: Name, members: Members) -> Result<Value, AllocError>
-    ensures { IfOk result (λ v. view v ≡ record_of name members.counts.bad members.counts.corrected members.compressed
+fn record_of(
+    alloc: Global,
+    origin: Origin,
+    name: Name,
+    members: Members,
+) -> Result<Value, AllocError>
+    ensures { IfOk result (λ v. view v ≡ record_of origin name members.counts.bad members.counts.corrected members.compressed
         (view members.time) (view members.taken) (view members.fault) (view members.entries) (view members.text)
         (view members.base64)) }
 {
     let mut shown = ArrayString::new();
-    name_text(name, &mut shown);
+    file_name(origin, name, &mut shown);
     json!(in alloc; {
         "bad": members.counts.bad,
         "base64": members.base64,
@@ -136,6 +141,7 @@ fn record_of(alloc: Global, name: Name, members: Members) -> Result<Value, Alloc
 /// A record that has these entries, and is shown as this text, or by these bytes in base64.
 fn with_entries(
     alloc: Global,
+    origin: Origin,
     logs: &Logs,
     held: &RecordReport,
     entries: Value,
@@ -143,12 +149,13 @@ fn with_entries(
     base64: Value,
 ) -> Result<Value, AllocError>
     ensures { IfOk result (λ v. view v
-        ≡ record_by (saved logs.now) held.now (view entries) (view text) (view base64)) }
+        ≡ record_by origin (saved logs.now) held.now (view entries) (view text) (view base64)) }
 {
     let time = time_value(alloc, held.time)?;
     let fault = fault_value(alloc, &held.packing)?;
     record_of(
         alloc,
+        origin,
         held.name,
         Members {
             counts: counts(logs, held.name),
@@ -166,15 +173,16 @@ fn with_entries(
 /// A record that is shown as this text, or by these bytes in base64.
 fn with_content(
     alloc: Global,
+    origin: Origin,
     logs: &Logs,
     held: &RecordReport,
     text: Value,
     base64: Value,
 ) -> Result<Value, AllocError>
-    ensures { IfOk result (λ v. view v ≡ record_with (saved logs.now) held.now (view text) (view base64)) }
+    ensures { IfOk result (λ v. view v ≡ record_with origin (saved logs.now) held.now (view text) (view base64)) }
 {
     let entries = entries_value(alloc, held.content.as_slice(), &held.entries)?;
-    with_entries(alloc, logs, held, entries, text, base64)
+    with_entries(alloc, origin, logs, held, entries, text, base64)
 }
 
 fn null_value() -> Value
@@ -184,20 +192,25 @@ fn null_value() -> Value
 }
 
 /// A record whose content is text, or in base64.
-fn content_value(alloc: Global, logs: &Logs, held: &RecordReport) -> Result<Value, AllocError>
-    ensures { IfOk result (λ v. view v ≡ content_data (saved logs.now) held.now) }
+fn content_value(
+    alloc: Global,
+    origin: Origin,
+    logs: &Logs,
+    held: &RecordReport,
+) -> Result<Value, AllocError>
+    ensures { IfOk result (λ v. view v ≡ content_data origin (saved logs.now) held.now) }
 {
     let bytes = held.content.as_slice();
     match from_utf8(bytes) {
         Ok(text) => {
             let text = Value::try_from_str(alloc, text)?;
             let base64 = null_value();
-            with_content(alloc, logs, held, text, base64)
+            with_content(alloc, origin, logs, held, text, base64)
         }
         Err(_) => {
             let base64 = Value::from(STANDARD.encode(alloc, bytes)?);
             let text = null_value();
-            with_content(alloc, logs, held, text, base64)
+            with_content(alloc, origin, logs, held, text, base64)
         }
     }
 }
@@ -219,37 +232,44 @@ pub fn utf8_front(bytes: &[u8]) -> &str
 /// A dump whose text breaks off, with that text as far as it is UTF-8, and its file in base64.
 fn part_value(
     alloc: Global,
+    origin: Origin,
     logs: &Logs,
     held: &RecordReport,
     text: &[u8],
 ) -> Result<Value, AllocError>
-    ensures { IfOk result (λ v. view v ≡ part_data_of (saved logs.now) held.now text.now) }
+    ensures { IfOk result (λ v. view v ≡ part_data_of origin (saved logs.now) held.now text.now) }
 {
     let text = Value::try_from_str(alloc, utf8_front(text))?;
     let base64 = Value::from(STANDARD.encode(alloc, held.content.as_slice())?);
-    with_content(alloc, logs, held, text, base64)
+    with_content(alloc, origin, logs, held, text, base64)
 }
 
-fn record_value(alloc: Global, logs: &Logs, held: &RecordReport) -> Result<Value, AllocError>
-    ensures { IfOk result (λ v. view v ≡ record_data (saved logs.now) held.now) }
+fn record_value(
+    alloc: Global,
+    origin: Origin,
+    logs: &Logs,
+    held: &RecordReport,
+) -> Result<Value, AllocError>
+    ensures { IfOk result (λ v. view v ≡ record_data origin (saved logs.now) held.now) }
 {
     match &held.packing {
-        Packing::Part { text, .. } => part_value(alloc, logs, held, text.as_slice()),
-        Packing::Plain | Packing::Whole { .. } => content_value(alloc, logs, held),
+        Packing::Part { text, .. } => part_value(alloc, origin, logs, held, text.as_slice()),
+        Packing::Plain | Packing::Whole { .. } => content_value(alloc, origin, logs, held),
     }
 }
 
 /// The records in their order.
 pub fn record_values(
     alloc: Global,
+    origin: Origin,
     logs: &Logs,
     records: &[RecordReport],
 ) -> Result<Vec<Value>, AllocError>
-    ensures { IfOk result (λ values. map view values.items ≡ map (record_data (saved logs.now)) records.now) }
+    ensures { IfOk result (λ values. map view values.items ≡ map (record_data origin (saved logs.now)) records.now) }
 {
     let mut values = Vec::with_capacity(alloc, records.len())?;
     for held in records {
-        values.push(record_value(alloc, logs, held)?)?;
+        values.push(record_value(alloc, origin, logs, held)?)?;
     }
     Ok(values)
 }

@@ -6,7 +6,7 @@ ghost use Rattle.region_report.specs.Warned.{warnings_by as warnings_of_report};
 ghost use Rattle.report_json.specs.Schema.{warning_with, warning_data, warnings_data};
 
 use crate::deaths::name_value;
-use region_report::{Report, Telling, Warning, warnings_by};
+use region_report::{Origin, Report, Telling, Warning, warnings_by};
 use serde_json::{Value, json};
 use std::alloc::{AllocError, Global};
 
@@ -16,12 +16,12 @@ fn warning_with(alloc: Global, code: &str, count: Value, about: Value) -> Result
     json!(in alloc; { "code": code, "count": count, "record": about })
 }
 
-fn warning_value(alloc: Global, warning: Warning) -> Result<Value, AllocError>
-    ensures { IfOk result (λ v. view v ≡ warning_data warning) }
+fn warning_value(alloc: Global, origin: Origin, warning: Warning) -> Result<Value, AllocError>
+    ensures { IfOk result (λ v. view v ≡ warning_data origin warning) }
 {
     match warning {
         Warning::ConsoleTells(dump) => {
-            let name = name_value(alloc, dump)?;
+            let name = name_value(alloc, origin, dump)?;
             warning_with(alloc, "console_tells", Value::Null, name)
         }
         Warning::BadTeller(bad) => {
@@ -37,12 +37,16 @@ fn warning_value(alloc: Global, warning: Warning) -> Result<Value, AllocError>
     }
 }
 
-fn warning_values(alloc: Global, warnings: &[Warning]) -> Result<Vec<Value>, AllocError>
-    ensures { IfOk result (λ values. map view values.items ≡ map warning_data warnings.now) }
+fn warning_values(
+    alloc: Global,
+    origin: Origin,
+    warnings: &[Warning],
+) -> Result<Vec<Value>, AllocError>
+    ensures { IfOk result (λ values. map view values.items ≡ map (warning_data origin) warnings.now) }
 {
     let mut values = Vec::with_capacity(alloc, warnings.len())?;
     for warning in warnings {
-        values.push(warning_value(alloc, *warning)?)?;
+        values.push(warning_value(alloc, origin, *warning)?)?;
     }
     Ok(values)
 }
@@ -53,9 +57,9 @@ pub fn warnings_value(
     report: &Report,
     told: Option<Telling<'_>>,
 ) -> Result<Value, AllocError>
-    ensures { IfOk result (λ v. view v ≡ warnings_data (warnings_of_report report.now (told_in told.entry))) }
+    ensures { IfOk result (λ v. view v ≡ warnings_data report.now.origin (warnings_of_report report.now (told_in told.entry))) }
 {
     let warnings = warnings_by(alloc, report, told)?;
-    let values = warning_values(alloc, warnings.as_slice())?;
+    let values = warning_values(alloc, report.origin(), warnings.as_slice())?;
     Ok(Value::Array(values))
 }

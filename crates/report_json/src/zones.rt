@@ -1,18 +1,20 @@
-// The values of parameters and zones.
+// The values of parameters, sizes and zones.
 ghost use Rattle.std.specs.Prelude.{◌≡◌, ◌<◌, ◌++◌, length, map, replicate, Some, None, IfOk, OnOk};
 ghost use Rattle.serde_json.specs.Data.{array, null};
 ghost use Rattle.serde_json.specs.View.{view, items_of};
-ghost use Rattle.report_json.specs.Schema.{count, parameters_data, part_data, blocks_data, words_data, layout_data};
+ghost use Rattle.report_json.specs.Schema.{count, parameters_data, sizes_data, division_data, part_data, blocks_data};
+ghost use Rattle.report_json.specs.Schema.{words_data, layout_data};
 ghost use Rattle.report_json.specs.Schema.{zone_with, zone_data, kind_text, state_text, IsZoneAt, AreZones};
 
 use prz_read::{Logs, Reading};
-use region_report::{PartState, ZoneParts};
+use psz_spec::Sizes;
+use region_report::{Division, PartState, ZoneParts};
 use serde_json::{Value, json};
 use std::alloc::{AllocError, Global};
 use zone_spec::{Kind, Params, State, Words, Zone, ZoneName};
 
 /// The parameters as they were given, but for the order of the zones, which their places show.
-pub fn parameters_value(alloc: Global, p: &Params) -> Result<Value, AllocError>
+fn parameters_value(alloc: Global, p: &Params) -> Result<Value, AllocError>
     ensures { IfOk result (λ v. view v ≡ parameters_data p.now) }
 {
     json!(in alloc; {
@@ -30,6 +32,29 @@ pub fn parameters_value(alloc: Global, p: &Params) -> Result<Value, AllocError>
         "pmsg_size": p.pmsg,
         "record_size": p.dump
     })
+}
+
+fn sizes_value(alloc: Global, s: &Sizes) -> Result<Value, AllocError>
+    ensures { IfOk result (λ v. view v ≡ sizes_data s.now) }
+{
+    json!(in alloc; {
+        "console_size": s.console,
+        "cpus": s.cpus,
+        "ftrace_size": s.ftrace,
+        "kmsg_size": s.dump,
+        "pmsg_size": s.pmsg,
+        "total_size": s.total
+    })
+}
+
+/// What divides the store into its zones.
+pub fn division_value(alloc: Global, division: &Division) -> Result<Value, AllocError>
+    ensures { IfOk result (λ v. view v ≡ division_data division.now) }
+{
+    match division {
+        Division::Region(params) => parameters_value(alloc, params),
+        Division::Storage(sizes) => sizes_value(alloc, sizes),
+    }
 }
 
 fn part_value(alloc: Global, state: PartState) -> Result<Value, AllocError>

@@ -5,3 +5,4 @@ mod LogEnds
 mod ReportEnds
 mod RunSteps
 mod Steps
+mod StorageEnds

@@ -18,7 +18,7 @@ use Rattle.report_run.specs.declared.failures.Failure.{Failure}
 use Rattle.report_run.specs.Failures.{stop_failure}
 use Rattle.report_run.specs.Messages.{Seen}
 use Rattle.report_run.specs.Plans.{dressed, map_of}
-use Rattle.report_run.specs.Images.{IsSoughtReport, IsNoSoughtReport}
+use Rattle.report_run.specs.Storages.{IsUnloggedReport, IsNoUnloggedReport}
 use Rattle.report_run.specs.Logs.{most_log, IsNoLog, IsHeldLog, IsUnlooked, IsLogUnreported}
 use Rattle.report_run.specs.Reports.{IsUnknownReport, IsNoUnknownReport}
 
@@ -71,22 +71,22 @@ module _ (asked : Asked) (known : Known) (path : List ℕ) (holds given now : Op
     by_log log a (Err why) is h =
         inr (inl (record { cause = record { log = log; held = is; cause = h }; silent = refl }))
 
-    pub by_search : (same : Option (List ℕ)) (read1 : ℕ) (a b : Seen) (r : Result ReportHeld Failure)
+    pub by_others : (same : Option (List ℕ)) (read1 : ℕ) (a b : Seen) (r : Result ReportHeld Failure)
         → IsNoLog asked.logs holds → same ≡ holds → read0 ≤ read1
-        → MatchResult r (IsSoughtReport asked known path same given now a b)
-        (IsNoSoughtReport asked known path same read1 read2 given now put0 put1 a b)
+        → MatchResult r (IsUnloggedReport asked known path same given now a b)
+        (IsNoUnloggedReport asked known path same read1 read2 given now put0 put1 a b)
         → MatchResult r (IsUnknownReport asked known path holds given now a b)
         (IsNoUnknownReport asked known path holds read0 read2 given now put0 put1 a b)
-    by_search same read1 a b (Ok report) unlogged e later h =
+    by_others same read1 a b (Ok report) unlogged e later h =
         inr (record {
           no_log = unlogged;
-          reported = subst (λ (o : Option (List ℕ)). IsSoughtReport asked known path o given now a b report) e h;
+          reported = subst (λ (o : Option (List ℕ)). IsUnloggedReport asked known path o given now a b report) e h;
         })
-    by_search same read1 a b (Err why) unlogged e later h =
+    by_others same read1 a b (Err why) unlogged e later h =
         inr (inr (record {
           no_log = unlogged;
           read_between = read1;
           later = later;
           cause = subst (λ (o : Option (List ℕ)).
-              IsNoSoughtReport asked known path o read1 read2 given now put0 put1 a b why) e h;
+              IsNoUnloggedReport asked known path o read1 read2 given now put0 put1 a b why) e h;
         }))

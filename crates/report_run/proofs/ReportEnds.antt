@@ -19,7 +19,7 @@ use Rattle.report_run.specs.Images.{TellsLayout, IsNotTold, IsStopped, IsSoughtR
 use Rattle.report_run.specs.Reports.{IsReport, IsNoReport}
 
 -- lines that were told raised no count of faults
-settled : (format : Format) (lines : List ℕ) (given now : Option (List ℕ)) (before after : ℕ) (a b : Seen)
+pub settled : (format : Format) (lines : List ℕ) (given now : Option (List ℕ)) (before after : ℕ) (a b : Seen)
     → TellsLayout format lines given now before after a b → after ≡ before
 settled Text lines given now before after a b t = t.no_fault
 settled Json lines given now before after a b t = t.no_fault

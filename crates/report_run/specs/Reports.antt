@@ -9,8 +9,9 @@ use Rattle.report_entry.specs.declared.laying.Layouts.TheVariants.{Given, Sought
 use Rattle.report_run.specs.declared.plans.Asked.{Asked}
 use Rattle.report_run.specs.declared.failures.Failure.{Failure}
 use Rattle.report_run.specs.Messages.{Seen}
-use Rattle.report_run.specs.Images.{IsStopped, IsSoughtReport, IsNoSoughtReport}
+use Rattle.report_run.specs.Images.{IsStopped}
 use Rattle.report_run.specs.Logs.{IsNoLog, IsUnlooked, IsLogReport, IsHeldUnreported}
+use Rattle.report_run.specs.Storages.{IsUnloggedReport, IsNoUnloggedReport}
 
 -- ---- an image of which no layout is known
 
@@ -20,16 +21,16 @@ pub record IsAsLog (asked : Asked) (path : List ℕ) (holds given now : Option (
   pub reported : IsLogReport asked path holds given now report
   pub silent : b ≡ a
 
--- or a layout was looked for
-pub record IsAsSought (asked : Asked) (known : Known) (path : List ℕ) (holds given now : Option (List ℕ)) (a b : Seen)
+-- or it is no text log
+pub record IsAsUnlogged (asked : Asked) (known : Known) (path : List ℕ) (holds given now : Option (List ℕ)) (a b : Seen)
     (report : ReportHeld) : Type 0 where
   pub no_log : IsNoLog asked.logs holds
-  pub reported : IsSoughtReport asked known path holds given now a b report
+  pub reported : IsUnloggedReport asked known path holds given now a b report
 
 abbrev pub IsUnknownReport : Asked → Known → List ℕ → Option (List ℕ) → Option (List ℕ) → Option (List ℕ)
     → Seen → Seen → ReportHeld → Type 0
 IsUnknownReport asked known path holds given now a b report =
-    IsAsLog asked path holds given now a b report ⊎ IsAsSought asked known path holds given now a b report
+    IsAsLog asked path holds given now a b report ⊎ IsAsUnlogged asked known path holds given now a b report
 
 -- it could not be read: nothing was given out
 pub record IsUnseenLog (read_before read_now : ℕ) (given now : Option (List ℕ)) (a b : Seen) (why : Failure)
@@ -43,20 +44,20 @@ pub record IsNotAsLog (asked : Asked) (path : List ℕ) (holds given now : Optio
   pub cause : IsHeldUnreported asked path holds given now put_before put_now why
   pub silent : b ≡ a
 
-pub record IsNotAsSought (asked : Asked) (known : Known) (path : List ℕ) (holds : Option (List ℕ))
+pub record IsNotUnlogged (asked : Asked) (known : Known) (path : List ℕ) (holds : Option (List ℕ))
     (read_before read_now : ℕ) (given now : Option (List ℕ)) (put_before put_now : ℕ) (a b : Seen) (why : Failure)
     : Type 0 where
   pub no_log : IsNoLog asked.logs holds
   pub read_between : ℕ
   pub later : read_before ≤ read_between
-  pub cause : IsNoSoughtReport asked known path holds read_between read_now given now put_before put_now a b why
+  pub cause : IsNoUnloggedReport asked known path holds read_between read_now given now put_before put_now a b why
 
 abbrev pub IsNoUnknownReport : Asked → Known → List ℕ → Option (List ℕ) → ℕ → ℕ → Option (List ℕ) → Option (List ℕ)
     → ℕ → ℕ → Seen → Seen → Failure → Type 0
 IsNoUnknownReport asked known path holds read_before read_now given now put_before put_now a b why =
     IsUnseenLog read_before read_now given now a b why
     ⊎ (IsNotAsLog asked path holds given now put_before put_now a b why
-    ⊎ IsNotAsSought asked known path holds read_before read_now given now put_before put_now a b why)
+    ⊎ IsNotUnlogged asked known path holds read_before read_now given now put_before put_now a b why)
 
 -- ---- any image
 

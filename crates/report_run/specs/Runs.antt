@@ -3,7 +3,7 @@ use Rattle.std.specs.Prelude.{◌≡◌, ◌⊎◌, ◌≤◌, ⊤, ℕ, nat_lt,
 use Rattle.std.specs.Prelude.{length, take, Option, ◌+◌, [], ◌∷◌, string_bytes}
 use Rattle.std.specs.declared.string.String.{String}
 use Rattle.std.specs.declared.alloc.Global.{Global}
-use Rattle.zone_spec.specs.Numbers.{most_memory}
+use Rattle.storage_spec.specs.Found.{most_storage}
 use Rattle.region_report.specs.Reports.{ReportHeld}
 use Rattle.report_tool.specs.Saved.{Files, Makes, files_of}
 use Rattle.report_entry.specs.declared.laying.Layouts.{Layouts}
@@ -27,7 +27,7 @@ state out out_faults errors files = record { out = out; out_faults = out_faults;
 -- how many bytes of an image are wanted
 abbrev pub most_of : Layouts → ℕ
 most_of (Given plan) = plan.mem
-most_of (Sought known) = most_memory
+most_of (Sought known) = most_storage
 
 abbrev pub IsUnopened : Failure → Type 0
 IsUnopened (Unopened why) = ⊤
@@ -43,13 +43,13 @@ IsKeptBack other = ⊥
 pub record MakesSome (report : ReportHeld) (before now : Option Files) : Type 0 where
   pub count : ℕ
   pub within : count ≤ length report.records
-  pub made : Makes before now (files_of (take count report.records))
+  pub made : Makes before now (files_of report.origin (take count report.records))
 
 -- ---- one image
 
 -- its records were saved, if that is asked for, and else no file was made
 abbrev pub IsSaved : Bool → ReportHeld → Option Files → Option Files → Type 0
-IsSaved true report before now = Makes before now (files_of report.records)
+IsSaved true report before now = Makes before now (files_of report.origin report.records)
 IsSaved false report before now = now ≡ before
 
 pub record IsDone (asked : Asked) (path : List ℕ) (holds : Option (List ℕ)) (a b : State) : Type 0 where

@@ -2,6 +2,7 @@
 ghost use Rattle.std.specs.Prelude.{◌≡◌, ◌≤◌, MatchResult};
 ghost use Rattle.report_run.specs.Messages.{seen};
 ghost use Rattle.report_run.specs.Images.{TellsLayout, IsNotTold, IsStopped, IsSoughtReport, IsNoSoughtReport};
+ghost use Rattle.report_run.specs.Storages.{IsUnloggedReport, IsNoUnloggedReport};
 ghost use Rattle.report_run.specs.Reports.{IsUnknownReport, IsNoUnknownReport, IsReport, IsNoReport};
 ghost use Rattle.report_tool.specs.Images.{IsReported};
 
@@ -9,6 +10,7 @@ use crate::failures::{Failure, stop_failure};
 use crate::logs::{held_log, report_log};
 use crate::messages::Messages;
 use crate::plans::{Asked, sought_plan};
+use crate::storages::{report_storage, storage_of};
 use outside::{Failed, Load, Sink};
 use region_report::Report;
 use report_entry::Layouts;
@@ -89,7 +91,34 @@ fn sought_report<M: Load, O: Sink, E: Sink>(
     report_by(alloc, &told.plan, asked.format, path, image, out)
 }
 
-// The report of an image of which no layout is known: as a text log, or by a layout that is looked for.
+// The report of an image that is no text log: as a storage, or by a layout that is looked for.
+fn unlogged_report<M: Load, O: Sink, E: Sink>(
+    alloc: Global,
+    asked: &Asked,
+    known: &Known,
+    path: &str,
+    image: &mut M,
+    out: &mut O,
+    messages: &mut Messages<E>,
+) -> Result<Report, Failure>
+    ensures reported { MatchResult result
+        (IsUnloggedReport asked.now known.now path.now (M.holds image.old) (O.given out.old) (O.given out.new)
+        (seen (E.given messages.old.errors) (E.faults messages.old.errors) messages.old.is_lost)
+        (seen (E.given messages.new.errors) (E.faults messages.new.errors) messages.new.is_lost))
+        (IsNoUnloggedReport asked.now known.now path.now (M.holds image.old) (M.faults image.old)
+        (M.faults image.new) (O.given out.old) (O.given out.new) (O.faults out.old) (O.faults out.new)
+        (seen (E.given messages.old.errors) (E.faults messages.old.errors) messages.old.is_lost)
+        (seen (E.given messages.new.errors) (E.faults messages.new.errors) messages.new.is_lost)) }
+    ensures same { M.holds image.new ≡ M.holds image.old }
+{
+    match storage_of(alloc, asked.logs, image) {
+        Ok(Some(storage)) => report_storage(alloc, asked, &storage, path, out, messages),
+        Ok(None) => sought_report(alloc, asked, known, path, image, out, messages),
+        Err(why) => Err(why),
+    }
+}
+
+// The report of an image of which no layout is known: as a text log, as a storage, or by a layout that is looked for.
 fn unknown_report<M: Load, O: Sink, E: Sink>(
     alloc: Global,
     asked: &Asked,
@@ -111,13 +140,14 @@ fn unknown_report<M: Load, O: Sink, E: Sink>(
 {
     match held_log(alloc, asked.logs, image) {
         Ok(Some(log)) => report_log(alloc, asked, log, path, out),
-        Ok(None) => sought_report(alloc, asked, known, path, image, out, messages),
+        Ok(None) => unlogged_report(alloc, asked, known, path, image, out, messages),
         Err(why) => Err(why),
     }
 }
 
 /// The report of an image: the lines on its layout, where that is looked for, and then what the format shows. A text
-/// has the lines above it; else standard error is given them. A text log is reported as the region that holds it.
+/// has the lines above it; else standard error is given them. A text log is reported as the region that holds it, and a
+/// storage of the kernel's pstore_zone as such.
 pub fn report_image<M: Load, O: Sink, E: Sink>(
     alloc: Global,
     asked: &Asked,

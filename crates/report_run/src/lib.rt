@@ -8,6 +8,7 @@ mod logs;
 mod messages;
 mod plans;
 mod running;
+mod storages;
 
 pub use failures::Failure;
 pub use images::{report_by, tell_layout};

@@ -20,7 +20,7 @@ pub struct Asked {
     pub lines: usize,
     /// The map of the kernel's functions.
     pub map: Option<Vec<u8>>,
-    /// Whether an image of which no layout is known is looked at for a text log.
+    /// Whether an image of which no layout is known is looked at for a text log, and for a storage.
     pub logs: bool,
     /// Whether the records are saved.
     pub saves: bool,

@@ -14,8 +14,8 @@ use region_report::Report;
 use report_entry::Layouts;
 use std::alloc::Global;
 
-/// A layout is looked for in the front of an image that is no file: in so many bytes.
-const MOST: u32 = 16_777_216;
+/// So much is read of an image that is no file and whose layout is looked for: the most that a storage has.
+const MOST: u32 = 134_217_728;
 
 /// Where images are opened.
 pub trait Images {
@@ -38,7 +38,7 @@ pub trait Records {
 
     /// Makes a file of each record, in order.
     fn save(&mut self, report: &Report) -> Result<(), Failure>
-        ensures made { MatchResult result (λ _. Makes (made self.old) (made self.new) (files_of report.now.records))
+        ensures made { MatchResult result (λ _. Makes (made self.old) (made self.new) (files_of report.now.origin report.now.records))
             (λ _. MakesSome report.now (made self.old) (made self.new)) }
         ensures why { IfErr result IsKeptBack };
 }

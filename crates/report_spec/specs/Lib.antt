@@ -8,3 +8,4 @@ pub mod Excerpts
 pub mod Warnings
 pub mod Facts
 pub mod Ends
+pub mod Origins

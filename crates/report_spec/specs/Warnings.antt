@@ -5,6 +5,8 @@ use Rattle.std.specs.List.{list_any, count_by}
 use Rattle.zone_spec.specs.declared.PartState.{PartState}
 use Rattle.zone_spec.specs.declared.PartState.TheVariants.{Read, Bad}
 use Rattle.zone_spec.specs.PartStates.{PartStates}
+use Rattle.report_spec.specs.declared.Origin.{Origin}
+use Rattle.report_spec.specs.declared.Origin.TheVariants.{Region, Storage}
 use Rattle.report_spec.specs.declared.Warning.{Warning}
 use Rattle.report_spec.specs.declared.Warning.TheVariants.{ConsoleTells, BadTeller, BadHeaders, NoLog, ManyBad}
 use Rattle.report_spec.specs.Packed.{RecordShown}
@@ -43,8 +45,14 @@ abbrev pub layout_warning : (logs bad zones : ℕ) → List Warning
 layout_warning logs bad zones =
     if logs == 0 then NoLog ∷ [] else (if nat_lt (zones / 2) bad then ManyBad bad ∷ [] else [])
 
--- the warnings of records, of which this one tells and has so many bad parts, and of zones whose parts read so
-abbrev pub warnings_of : List RecordShown → Option DeathTold → ℕ → List PartStates → List Warning
-warnings_of records told bad zones =
-    console_warning (newest records) told ++ teller_warning bad ++ headers_warning (count_by has_bad_header zones)
+-- a zone of a storage has neither parity nor blocks: its parts tell nothing
+abbrev pub parts_warnings : Origin → List PartStates → List Warning
+parts_warnings Region zones =
+    headers_warning (count_by has_bad_header zones)
     ++ layout_warning (count_by has_log zones) (count_by has_bad_part zones) (length zones)
+parts_warnings Storage zones = []
+
+-- the warnings of records, of which this one tells and has so many bad parts, and of zones whose parts read so
+abbrev pub warnings_of : Origin → List RecordShown → Option DeathTold → ℕ → List PartStates → List Warning
+warnings_of origin records told bad zones =
+    console_warning (newest records) told ++ teller_warning bad ++ parts_warnings origin zones

@@ -6,7 +6,24 @@ ghost use Rattle.std.specs.Prelude.{◌≡◌};
 ghost use Rattle.report_spec.specs.Packed.{stream_words, fault_words};
 
 use inflate_spec::Fault;
-use zone_spec::Name;
+use psz_spec::Sizes;
+use zone_spec::{Name, Params};
+
+/// Whose records a report shows: the kernel names those of a storage otherwise.
+#[derive(Clone, Copy, Debug, PartialEq, Eq)]
+pub enum Origin {
+    /// A ramoops region.
+    Region,
+    /// A storage that the kernel's pstore_zone wrote.
+    Storage,
+}
+
+/// What divides a region or a storage into its zones.
+#[derive(Clone, Copy, Debug, PartialEq, Eq)]
+pub enum Division {
+    Region(Params),
+    Storage(Sizes),
+}
 
 /// Why a packed dump's text is not shown to its end.
 #[derive(Clone, Copy, Debug, PartialEq, Eq)]

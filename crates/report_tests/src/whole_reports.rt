@@ -1,7 +1,7 @@
 // Reports of images, and what each format makes of them.
 use outside::Bytes;
 use ramoops_layout::{Order, Params, layout};
-use region_report::{Report, report_of};
+use region_report::{Division, Report, report_of};
 use report_html::html;
 use report_json::json;
 use report_text::text;
@@ -83,7 +83,7 @@ pub fn line_of(
     if report.logs().len() as usize != zones.len() || report.parts().len() != zones.len() {
         return Err(Fail::from("the report has other zones"));
     }
-    Ok(json(alloc, path, params, zones, report)?)
+    Ok(json(alloc, path, &Division::Region(*params), zones, report)?)
 }
 
 /// Its page.
@@ -94,7 +94,13 @@ pub fn page_of(
     report: &Report,
 ) -> Result<Vec<u8>, Fail> {
     let zones = layout(alloc, params)?;
-    Ok(html(alloc, path, params, zones.zones(), report)?)
+    Ok(html(
+        alloc,
+        path,
+        &Division::Region(*params),
+        zones.zones(),
+        report,
+    )?)
 }
 
 /// Whether a page has this text.

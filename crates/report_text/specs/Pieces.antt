@@ -2,8 +2,9 @@
 use Rattle.std.specs.Prelude.{ℕ, ◌-◌, ◌++◌, List, length, take, min, map, flat_map, codes, decimal}
 use Rattle.zone_spec.specs.declared.Name.{Name}
 use Rattle.zone_spec.specs.declared.Time.{Time}
-use Rattle.zone_spec.specs.Names.{name_text}
+use Rattle.report_spec.specs.declared.Origin.{Origin}
 use Rattle.report_spec.specs.Moments.{moment_text, long_text}
+use Rattle.report_spec.specs.Origins.{name_in}
 use Rattle.report_spec.specs.Visible.{visible}
 use Rattle.report_text.specs.declared.pieces.Piece.{Piece}
 use Rattle.report_text.specs.declared.pieces.Piece.TheVariants.{Own, Number, Foreign, Moment as MomentPiece}
@@ -24,17 +25,18 @@ abbrev pub filled : ℕ → ℕ → List ℕ
 filled columns n =
     take (min (columns - length (decimal n)) 20) (codes "                    ") ++ decimal n
 
-abbrev pub part_text : Part → List ℕ
-part_text (Words text) = visible text
-part_text (Count columns n) = visible (filled columns n)
-part_text (Bytes bytes) = visible bytes
-part_text (Moment time) = visible (moment_text time)
-part_text (Long seconds) = visible (long_text seconds)
-part_text (Named name) = visible (name_text name)
+-- records have the names that they have there
+abbrev pub part_text : Origin → Part → List ℕ
+part_text origin (Words text) = visible text
+part_text origin (Count columns n) = visible (filled columns n)
+part_text origin (Bytes bytes) = visible bytes
+part_text origin (Moment time) = visible (moment_text time)
+part_text origin (Long seconds) = visible (long_text seconds)
+part_text origin (Named name) = visible (name_in origin name)
 
 -- the text of parts, end to end
-abbrev pub parts_text : List Part → List ℕ
-parts_text parts = flat_map part_text parts
+abbrev pub parts_text : Origin → List Part → List ℕ
+parts_text origin parts = flat_map (part_text origin) parts
 
 -- the part of a text that a piece is
 abbrev pub part_of : Piece → Part
@@ -48,5 +50,5 @@ part_of (NamedPiece name) = Named name
 abbrev pub parts : List Piece → List Part
 parts pieces = map part_of pieces
 
-abbrev pub piece_text : Piece → List ℕ
-piece_text piece = part_text (part_of piece)
+abbrev pub piece_text : Origin → Piece → List ℕ
+piece_text origin piece = part_text origin (part_of piece)

@@ -61,7 +61,7 @@ all_parts title most r told =
 
 -- the text under this title, with at most so many lines below the one that tells
 unfoldable pub text_of : List ℕ → ℕ → ReportHeld → List ℕ
-text_of title most r = parts_text (all_parts title most r (death_told r.records))
+text_of title most r = parts_text r.origin (all_parts title most r (death_told r.records))
 
 abbrev pub IsTextOf : List ℕ → ℕ → ReportHeld → List ℕ → Type 0
 IsTextOf title most report text = text ≡ text_of title most report
@@ -71,4 +71,4 @@ abbrev pub line_parts : List ℕ → ReportHeld → Option DeathTold → List Pa
 line_parts title r told = Bytes title ∷ [] ++ short_parts (signature_told told) r.records told
 
 unfoldable pub brief_of : List ℕ → ReportHeld → List ℕ
-brief_of title r = parts_text (line_parts title r (death_told r.records))
+brief_of title r = parts_text r.origin (line_parts title r (death_told r.records))

@@ -3,14 +3,13 @@ ghost use Rattle.std.specs.Prelude.{◌≡◌, ◌++◌, true, IfOk, OnOk};
 ghost use Rattle.std.specs.List.{list_all};
 ghost use Rattle.report_spec.specs.Moments.{moment_text, long_text};
 ghost use Rattle.report_spec.specs.Visible.{is_visible, visible};
-ghost use Rattle.zone_spec.specs.Names.{name_text as text_of_name};
+ghost use Rattle.report_spec.specs.Origins.{name_in};
 ghost use Rattle.report_text.specs.Pieces.{filled, piece_text, parts, parts_text};
 
 use crate::visible::push_visible;
 use arrayvec::ArrayString;
 use itoa::Buffer;
-use pstore_records::name_text;
-use region_report::{push_long, push_moment};
+use region_report::{Origin, file_name, push_long, push_moment};
 use std::alloc::{AllocError, Global};
 use zone_spec::{Name, Time};
 
@@ -66,19 +65,24 @@ fn push_units(alloc: Global, out: &mut Vec<u8>, seconds: u64) -> Result<(), Allo
     push_visible(out, text.as_slice())
 }
 
-fn push_name(out: &mut Vec<u8>, name: Name) -> Result<(), AllocError>
+fn push_name(out: &mut Vec<u8>, origin: Origin, name: Name) -> Result<(), AllocError>
     requires { list_all is_visible out.old.items ≡ true }
-    ensures bytes { OnOk result (out.new.items ≡ out.old.items ++ visible (text_of_name name)) }
+    ensures bytes { OnOk result (out.new.items ≡ out.old.items ++ visible (name_in origin name)) }
     ensures visible { OnOk result (list_all is_visible out.new.items ≡ true) }
 {
     let mut text = ArrayString::new();
-    name_text(name, &mut text);
+    file_name(origin, name, &mut text);
     push_visible(out, text.as_bytes())
 }
 
-fn push_piece(alloc: Global, out: &mut Vec<u8>, piece: Piece<'_>) -> Result<(), AllocError>
+fn push_piece(
+    alloc: Global,
+    origin: Origin,
+    out: &mut Vec<u8>,
+    piece: Piece<'_>,
+) -> Result<(), AllocError>
     requires { list_all is_visible out.old.items ≡ true }
-    ensures bytes { OnOk result (out.new.items ≡ out.old.items ++ piece_text piece.entry) }
+    ensures bytes { OnOk result (out.new.items ≡ out.old.items ++ piece_text origin piece.entry) }
     ensures visible { OnOk result (list_all is_visible out.new.items ≡ true) }
 {
     match piece {
@@ -87,18 +91,18 @@ fn push_piece(alloc: Global, out: &mut Vec<u8>, piece: Piece<'_>) -> Result<(), 
         Piece::Foreign(bytes) => push_visible(out, bytes),
         Piece::Moment(time) => push_time(alloc, out, time),
         Piece::Long(seconds) => push_units(alloc, out, seconds),
-        Piece::Named(name) => push_name(out, name),
+        Piece::Named(name) => push_name(out, origin, name),
     }
 }
 
-/// The text of the pieces, end to end.
-pub fn render(alloc: Global, pieces: &[Piece<'_>]) -> Result<Vec<u8>, AllocError>
-    ensures text { IfOk result (λ text. text.items ≡ parts_text (parts pieces.now)) }
+/// The text of the pieces, end to end, with the names that records have there.
+pub fn render(alloc: Global, origin: Origin, pieces: &[Piece<'_>]) -> Result<Vec<u8>, AllocError>
+    ensures text { IfOk result (λ text. text.items ≡ parts_text origin (parts pieces.now)) }
     ensures visible { IfOk result (λ text. list_all is_visible text.items ≡ true) }
 {
     let mut out = Vec::new(alloc);
     for piece in pieces {
-        push_piece(alloc, &mut out, *piece)?;
+        push_piece(alloc, origin, &mut out, *piece)?;
     }
     Ok(out)
 }

@@ -129,7 +129,7 @@ pub fn text(
         told,
         most,
     )?;
-    let text = render(alloc, pieces.as_slice())?;
+    let text = render(alloc, report.origin(), pieces.as_slice())?;
     Ok(Bytes::from_vec(text))
 }
 
@@ -215,6 +215,6 @@ pub fn brief(alloc: Global, title: &[u8], report: &Report) -> Result<Bytes, Allo
     let told = death_told(report.records());
     let signature = signature_of(alloc, told)?;
     let pieces = line_pieces(alloc, title, signature.as_slice(), report, told)?;
-    let text = render(alloc, pieces.as_slice())?;
+    let text = render(alloc, report.origin(), pieces.as_slice())?;
     Ok(Bytes::from_vec(text))
 }

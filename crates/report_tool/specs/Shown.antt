@@ -1,6 +1,9 @@
 -- A report in a format
 use Rattle.std.specs.Prelude.{◌≡◌, ℕ, true, List, [], ◌∷◌, ◌++◌, length}
 use Rattle.std.specs.List.{list_all}
+use Rattle.zone_spec.specs.declared.Zone.{Zone}
+use Rattle.report_spec.specs.declared.Division.{Division}
+use Rattle.report_spec.specs.declared.Division.TheVariants.{Region}
 use Rattle.report_spec.specs.Visible.{is_visible}
 use Rattle.region_report.specs.Reports.{ReportHeld}
 use Rattle.report_text.specs.Whole.{IsTextOf}
@@ -10,24 +13,34 @@ use Rattle.report_tool.specs.declared.plan.Plan.{Plan}
 use Rattle.report_tool.specs.declared.showing.Format.{Format}
 use Rattle.report_tool.specs.declared.showing.Format.TheVariants.{Text, Json, Html}
 
--- a report of the plan's zones
-pub record IsOf (plan : Plan) (report : ReportHeld) : Type 0 where
-  pub zones_same : plan.zones.items ≡ report.logs.zones
-  pub readings_len : length report.logs.readings ≡ length plan.zones.items
-  pub parts_len : length report.parts ≡ length plan.zones.items
+-- a report of these zones
+pub record AreOf (zones : List Zone) (report : ReportHeld) : Type 0 where
+  pub zones_same : zones ≡ report.logs.zones
+  pub readings_len : length report.logs.readings ≡ length zones
+  pub parts_len : length report.parts ≡ length zones
 
 -- a text for a terminal, each byte of which is visible
-pub record IsVisibleText (path : List ℕ) (plan : Plan) (report : ReportHeld) (text : List ℕ) : Type 0 where
-  pub is_text : IsTextOf path plan.lines report text
+pub record IsVisibleText (path : List ℕ) (lines : ℕ) (report : ReportHeld) (text : List ℕ) : Type 0 where
+  pub is_text : IsTextOf path lines report text
   pub visible : list_all is_visible text ≡ true
 
 -- a line of JSON, and a newline
-pub record IsJsonLine (path : List ℕ) (plan : Plan) (report : ReportHeld) (text : List ℕ) : Type 0 where
+pub record IsJsonLine (path : List ℕ) (division : Division) (zones : List Zone) (report : ReportHeld) (text : List ℕ)
+    : Type 0 where
   pub line : List ℕ
-  pub is_line : IsLine path plan.params plan.zones.items report line
+  pub is_line : IsLine path division zones report line
   pub text_is : text ≡ line ++ 10 ∷ []
 
+-- a report of zones, divided so, with so many lines of the newest dump in a text
+abbrev pub ShowsZones : Format → List ℕ → Division → List Zone → ℕ → ReportHeld → List ℕ → Type 0
+ShowsZones Text path division zones lines report text = IsVisibleText path lines report text
+ShowsZones Json path division zones lines report text = IsJsonLine path division zones report text
+ShowsZones Html path division zones lines report text = text ≡ page_of path division zones report
+
+-- a report of a plan's zones
+abbrev pub IsOf : Plan → ReportHeld → Type 0
+IsOf plan report = AreOf plan.zones.items report
+
 abbrev pub Shows : Format → List ℕ → Plan → ReportHeld → List ℕ → Type 0
-Shows Text path plan report text = IsVisibleText path plan report text
-Shows Json path plan report text = IsJsonLine path plan report text
-Shows Html path plan report text = text ≡ page_of path plan.params plan.zones.items report
+Shows format path plan report text =
+    ShowsZones format path (Region plan.params) plan.zones.items plan.lines report text

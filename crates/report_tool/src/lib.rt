@@ -18,6 +18,6 @@ pub use images::report;
 pub use layout_search::{Candidate, Found, Known};
 pub use plan::{Plan, PlanFault};
 pub use saving::{Folder, save};
-pub use showing::Format;
+pub use showing::{Format, shown_zones};
 pub use tree::TreeFault;
 pub use version::{add_order, add_tag, ftrace_tag, zone_order};

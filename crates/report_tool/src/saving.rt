@@ -1,13 +1,12 @@
 // The records of a report as files.
 ghost use Rattle.std.specs.Prelude.{◌≡◌, ℕ, [], ◌∷◌, List, Option, MatchResult, OnOk, OnErr};
 ghost use Rattle.outside.specs.Outside.{HasCause};
-ghost use Rattle.zone_spec.specs.Names.{name_text};
+ghost use Rattle.report_spec.specs.Origins.{name_in};
 ghost use Rattle.report_tool.specs.Saved.{Makes, MakesFirst, files_of};
 
 use arrayvec::ArrayString;
 use outside::Failed;
-use pstore_records::name_text;
-use region_report::{RecordReport, Report};
+use region_report::{Origin, RecordReport, Report, file_name};
 
 /// A folder in which files are made.
 pub trait Folder {
@@ -25,14 +24,14 @@ pub trait Folder {
         ensures cause { HasCause (faults self.old) (faults self.new) result };
 }
 
-fn save_record<F: Folder>(folder: &mut F, held: &RecordReport) -> Result<(), Failed>
+fn save_record<F: Folder>(folder: &mut F, origin: Origin, held: &RecordReport) -> Result<(), Failed>
     ensures made { OnOk result (Makes (F.made folder.old) (F.made folder.new)
-        ((name_text held.now.name, held.now.content) ∷ [])) }
+        ((name_in origin held.now.name, held.now.content) ∷ [])) }
     ensures kept { OnErr result (F.made folder.new ≡ F.made folder.old) }
     ensures cause { HasCause (F.faults folder.old) (F.faults folder.new) result }
 {
-    let mut name: ArrayString<30> = ArrayString::new();
-    name_text(held.name, &mut name);
+    let mut name = ArrayString::new();
+    file_name(origin, held.name, &mut name);
     folder.make(name.as_str(), held.content.as_slice())
 }
 
@@ -41,12 +40,12 @@ fn save_record<F: Folder>(folder: &mut F, held: &RecordReport) -> Result<(), Fai
 /// files that were made before it.
 pub fn save<F: Folder>(folder: &mut F, report: &Report) -> Result<(), Failed>
     ensures made { MatchResult result
-        (λ _. Makes (F.made folder.old) (F.made folder.new) (files_of report.now.records))
-        (λ _. MakesFirst report.now.records (F.made folder.old) (F.made folder.new)) }
+        (λ _. Makes (F.made folder.old) (F.made folder.new) (files_of report.now.origin report.now.records))
+        (λ _. MakesFirst report.now.origin report.now.records (F.made folder.old) (F.made folder.new)) }
     ensures cause { HasCause (F.faults folder.old) (F.faults folder.new) result }
 {
     for held in report.records() {
-        save_record(folder, held)?;
+        save_record(folder, report.origin(), held)?;
     }
     Ok(())
 }

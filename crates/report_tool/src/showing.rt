@@ -1,13 +1,14 @@
 // A report in a format.
 ghost use Rattle.std.specs.Prelude.{IfOk};
-ghost use Rattle.report_tool.specs.Shown.{Shows, IsOf};
+ghost use Rattle.report_tool.specs.Shown.{AreOf, IsJsonLine, ShowsZones, Shows, IsOf};
 
 use crate::Plan;
-use region_report::Report;
+use region_report::{Division, Report};
 use report_html::html;
 use report_json::json;
 use report_text::text;
 use std::alloc::{AllocError, Global};
+use zone_spec::Zone;
 
 /// How a report is written.
 #[derive(Clone, Copy, Debug, PartialEq, Eq)]
@@ -20,14 +21,44 @@ pub enum Format {
     Html,
 }
 
-fn json_line(alloc: Global, plan: &Plan, path: &str, report: &Report) -> Result<Vec<u8>, AllocError>
-    requires { IsOf plan.now report.now }
-    ensures { IfOk result (λ line. Shows Format.Json path.now plan.now report.now line.items) }
+fn json_line(
+    alloc: Global,
+    division: &Division,
+    zones: &[Zone],
+    path: &str,
+    report: &Report,
+) -> Result<Vec<u8>, AllocError>
+    requires { AreOf zones.now report.now }
+    ensures { IfOk result (λ line. IsJsonLine path.now division.now zones.now report.now line.items) }
 {
-    let line = json(alloc, path, &plan.params, &plan.zones, report)?;
+    let line = json(alloc, path, division, zones, report)?;
     let mut bytes = line.into_bytes();
     bytes.push(b'\n')?;
     Ok(bytes)
+}
+
+/// The report of zones, divided so, of the image at `path`, written in a format. A text has so many lines of the newest
+/// dump.
+pub fn shown_zones(
+    alloc: Global,
+    division: &Division,
+    zones: &[Zone],
+    lines: usize,
+    format: Format,
+    path: &str,
+    report: &Report,
+) -> Result<Vec<u8>, AllocError>
+    requires { AreOf zones.now report.now }
+    ensures { IfOk result (λ shown. ShowsZones format path.now division.now zones.now lines report.now shown.items) }
+{
+    match format {
+        Format::Text => {
+            let bytes = text(alloc, path.as_bytes(), zones, report, lines)?;
+            Ok(bytes.into_vec())
+        }
+        Format::Json => json_line(alloc, division, zones, path, report),
+        Format::Html => html(alloc, path.as_bytes(), division, zones, report),
+    }
 }
 
 /// The report of the image at `path`, written in a format.
@@ -41,12 +72,14 @@ pub fn shown(
     requires { IsOf plan.now report.now }
     ensures { IfOk result (λ shown. Shows format path.now plan.now report.now shown.items) }
 {
-    match format {
-        Format::Text => {
-            let bytes = text(alloc, path.as_bytes(), &plan.zones, report, plan.lines)?;
-            Ok(bytes.into_vec())
-        }
-        Format::Json => json_line(alloc, plan, path, report),
-        Format::Html => html(alloc, path.as_bytes(), &plan.params, &plan.zones, report),
-    }
+    let division = Division::Region(plan.params);
+    shown_zones(
+        alloc,
+        &division,
+        &plan.zones,
+        plan.lines,
+        format,
+        path,
+        report,
+    )
 }

@@ -5,6 +5,7 @@ use Rattle.report_spec.specs.Packed.{RecordShown}
 use Rattle.report_spec.specs.Deaths.{DeathTold, death_told}
 use Rattle.report_spec.specs.Facts.{signature_told}
 use Rattle.region_report.specs.Tellers.{told_in}
+use Rattle.report_spec.specs.declared.Origin.{Origin}
 use Rattle.report_html.specs.declared.pieces.Piece.{Piece}
 use Rattle.report_html.specs.Pieces.{Part, parts, parts_text}
 use Rattle.report_html.specs.Pages.{page_with, page_by, page_parts, page_of}
@@ -15,14 +16,16 @@ use Rattle.report_html.proofs.page.html.Goals as goal
 pub returns-clause-page : goal.returns-clause-page
 unfolding page_of
 returns-clause-page c =
+    let origin : Origin = c.args.report.now.origin in
     let by : List ℕ → Option DeathTold → List Part =
-    λ s t. page_with c.args.title.now c.args.params.now c.args.zones.now c.args.report.now s t in
+    λ s t. page_with c.args.title.now c.args.division.now c.args.zones.now c.args.report.now s t in
     c.in_ok-text.ensures
-    ∙ ap (λ (ps : List Piece). parts_text (parts ps)) c.as_slice-2.ensures.value
-    ∙ ap (λ (ps : List Part). parts_text ps) c.in_ok-pieces.ensures.parts
-    ∙ ap (λ (s : List ℕ). parts_text (by s (told_in c.death_told-told.result)))
+    ∙ ap (λ (o : Origin). parts_text o (parts c.as_slice-2.result.now)) c.origin.ensures
+    ∙ ap (λ (ps : List Piece). parts_text origin (parts ps)) c.as_slice-2.ensures.value
+    ∙ ap (λ (ps : List Part). parts_text origin ps) c.in_ok-pieces.ensures.parts
+    ∙ ap (λ (s : List ℕ). parts_text origin (by s (told_in c.death_told-told.result)))
     (c.as_slice.ensures.value ∙ c.in_ok-signature.ensures)
-    ∙ ap (λ (t : Option DeathTold). parts_text (by (signature_told t) t))
+    ∙ ap (λ (t : Option DeathTold). parts_text origin (by (signature_told t) t))
     (c.death_told-told.ensures ∙ ap (λ (rs : List RecordShown). death_told rs) c.records.ensures)
 
 pub returns-clause-no_markup : goal.returns-clause-no_markup
@@ -35,7 +38,7 @@ returns-clause-no_markup c =
     let signed : AllTellBytes (signature_told told) records told =
     subst (λ (s : List ℕ). AllTellBytes s records told) (c.as_slice.ensures.value ∙ c.in_ok-signature.ensures)
     c.in_ok-pieces.ensures.tells in
-    without_markup c.args.title.now c.args.params.now c.args.zones.now c.args.report.now c.in_ok-text.text.items
+    without_markup c.args.title.now c.args.division.now c.args.zones.now c.args.report.now c.in_ok-text.text.items
     (λ i. (c.type_inv.title i).fits) c.in_ok-pieces.ensures.bytes
     (subst (λ (t : Option DeathTold). AllTellBytes (signature_told t) records t) same signed)
     (returns-clause-page c)

@@ -6,9 +6,7 @@ pub returns : goal.returns
 returns c =
     simp (
       c.in_ok-add-2.ensures,
-      c.in_ok-add_ftrace.ensures,
-      c.in_ok-add_parity.ensures,
-      c.in_ok-add_sizes.ensures,
+      c.in_ok-add_rows.ensures,
       c.in_ok-add.ensures,
       append_assoc,
     )

@@ -5,4 +5,4 @@ use Rattle.report_html.specs.Pieces.{piece_text}
 use Rattle.report_html.proofs.pieces.render.Given as goal
 
 abbrev pub invariant-loop-piece : goal.invariant-loop-piece
-invariant-loop-piece l = l.out.items ≡ flat_map piece_text (take l.piece-index l.pieces)
+invariant-loop-piece l = l.out.items ≡ flat_map (piece_text l.origin) (take l.piece-index l.pieces)

@@ -13,7 +13,7 @@ returns-in_ok-text-in-Ok c =
     let same : c.as_slice-bytes.result.now ≡ c.args.held.now.content = (let a = c.as_slice-bytes.ensures in
     let v = c.held.view_is in cc) in
     let valid = c.in-Ok.ensures.cases in
-    if_ok c.with_content.result _ _ (λ v e. e ∙ text_record (saved c.args.logs.now) c.args.held.now
+    if_ok c.with_content.result _ _ (λ v e. e ∙ text_record c.args.origin (saved c.args.logs.now) c.args.held.now
     c.as_slice-bytes.result.now (view c.in_ok-text-in-Ok.text) (view c.null_value-base64.result) same valid.1
     (c.in_ok-text-in-Ok.ensures ∙ ap string valid.0) c.null_value-base64.ensures) c.with_content.ensures
 
@@ -21,7 +21,7 @@ pub returns-in_ok-encode-in-Err : goal.returns-in_ok-encode-in-Err
 returns-in_ok-encode-in-Err c =
     let same : c.as_slice-bytes.result.now ≡ c.args.held.now.content = c.as_slice-bytes.ensures
     ∙ ap (λ (r : RecordShown). r.content) c.held.view_is in
-    if_ok c.with_content-in-Err.result _ _ (λ v e. e ∙ base64_record (saved c.args.logs.now) c.args.held.now
+    if_ok c.with_content-in-Err.result _ _ (λ v e. e ∙ base64_record c.args.origin (saved c.args.logs.now) c.args.held.now
     c.as_slice-bytes.result.now (view c.from-base64.result) (view c.null_value-text.result) same
     c.in-Err.ensures.cases.0 (c.from-base64.ensures ∙ ap string c.in_ok-encode-in-Err.ensures.text)
     c.null_value-text.ensures) c.with_content-in-Err.ensures

@@ -12,8 +12,8 @@ pub returns-in-Part : goal.returns-in-Part
 returns-in-Part c =
     let zones = saved c.args.logs.now in
     let r : RecordShown = c.args.held.now in
-    if_ok c.part_value.result _ _ (λ v e. e ∙ ap (part_data_of zones r) c.as_slice.ensures
-    ∙ part_record zones r c.in-Part.fault c.in-Part.text
+    if_ok c.part_value.result _ _ (λ v e. e ∙ ap (part_data_of c.args.origin zones r) c.as_slice.ensures
+    ∙ part_record c.args.origin zones r c.in-Part.fault c.in-Part.text
     (sym (ap (λ (q : RecordShown). q.packing) c.held.view_is) ∙ c.in-Part.is)) c.part_value.ensures
 
 pub returns-in-Plain : goal.returns-in-Plain
@@ -25,4 +25,4 @@ returns-in-Plain c =
       | inl e ↦ inl (packing ∙ e)
       | inr w ↦ inr (w.0, packing ∙ w.1)
     ] in
-    if_ok c.content_value.result _ _ (λ v e. e ∙ whole_record zones r how) c.content_value.ensures
+    if_ok c.content_value.result _ _ (λ v e. e ∙ whole_record c.args.origin zones r how) c.content_value.ensures

@@ -6,4 +6,4 @@ use Rattle.report_json.specs.Schema.{record_data}
 use Rattle.report_json.proofs.records.record_values.Given as goal
 
 abbrev pub invariant-loop-held : goal.invariant-loop-held
-invariant-loop-held l = map view l.values.items ≡ map (record_data (saved l.logs)) (take l.held-index l.records)
+invariant-loop-held l = map view l.values.items ≡ map (record_data l.origin (saved l.logs)) (take l.held-index l.records)

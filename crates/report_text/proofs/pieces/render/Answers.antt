@@ -10,6 +10,6 @@ use Rattle.report_text.proofs.pieces.render.Goals as goal
 pub returns-clause-text : goal.returns-clause-text
 returns-clause-text c =
     c.loop-piece.invariant.text
-    ∙ ap (λ (ps : List Piece). flat_map piece_text ps)
+    ∙ ap (λ (ps : List Piece). flat_map (piece_text c.args.origin) ps)
     (take_all c.loop-piece.piece-index c.args.pieces.now (let past = c.loop-piece-test.false in omega (arith, past)))
-    ∙ rendered c.args.pieces.now
+    ∙ rendered c.args.origin c.args.pieces.now

@@ -8,6 +8,6 @@ use Rattle.report_text.proofs.pieces.render.Given as goal
 
 abbrev pub invariant-loop-piece : goal.invariant-loop-piece
 invariant-loop-piece l = record {
-  text : l.out.items ≡ flat_map piece_text (take l.piece-index l.pieces);
+  text : l.out.items ≡ flat_map (piece_text l.origin) (take l.piece-index l.pieces);
   visible : list_all is_visible l.out.items ≡ true;
 }

@@ -1,0 +1,26 @@
+-- The image could not be read, or it is a storage, whose report follows.
+use Rattle.std.proofs.Common.{subst, Option}
+use Rattle.storage_report.specs.declared.loading.HeldStorage.{HeldStorage}
+use Rattle.report_run.specs.Messages.{seen}
+use Rattle.report_run.specs.Storages.{IsLookedAt}
+use Rattle.report_run.proofs.StorageEnds.{unread, by_storage}
+use Rattle.report_run.proofs.images.unlogged_report.Goals as goal
+
+pub returns-in-Err-clause-reported : goal.returns-in-Err-clause-reported
+returns-in-Err-clause-reported g c =
+    unread c.args.asked.now c.args.known.now c.args.path.now (g.M.Load.holds c.args.image.now)
+    (g.O.Sink.given c.args.out.now) (g.O.Sink.given c.args.out.now) (g.M.Load.faults c.args.image.now)
+    (g.M.Load.faults c.storage_of.new.image) (g.O.Sink.faults c.args.out.now) (g.O.Sink.faults c.args.out.now)
+    (seen (g.E.Sink.given c.args.messages.now.errors) (g.E.Sink.faults c.args.messages.now.errors)
+    c.args.messages.now.is_lost) c.in-Err.why c.in-Err.ensures.unlooked
+
+pub returns-in-Ok-Some-clause-reported : goal.returns-in-Ok-Some-clause-reported
+returns-in-Ok-Some-clause-reported g c =
+    by_storage c.args.asked.now c.args.known.now c.args.path.now (g.M.Load.holds c.args.image.now)
+    (g.O.Sink.given c.args.out.now) (g.O.Sink.given c.report_storage.new.out) (g.M.Load.faults c.args.image.now)
+    (g.M.Load.faults c.storage_of.new.image) (g.O.Sink.faults c.args.out.now)
+    (g.O.Sink.faults c.report_storage.new.out) c.in-Ok-Some.storage _ _
+    c.report_storage.result
+    (subst (λ (o : Option HeldStorage). IsLookedAt c.args.asked.now.logs (g.M.Load.holds c.args.image.now) o)
+    c.in-Ok-Some.field-0-is c.in-Ok-Some.ensures.looked)
+    c.report_storage.ensures

@@ -1,0 +1,113 @@
+-- An image that is a storage of the kernel's pstore_zone, or one whose layout is looked for
+use Rattle.std.specs.Prelude.{◌≡◌, ◌⊎◌, ◌≤◌, ℕ, Bool, true, List, [], Option, Some, None, IfSome}
+use Rattle.command_spec.specs.declared.Stop.{Stop}
+use Rattle.storage_spec.specs.Found.{front_of, storage_in}
+use Rattle.storage_spec.specs.Told.{storage_lines}
+use Rattle.storage_report.specs.declared.loading.HeldStorage.{HeldStorage}
+use Rattle.storage_report.specs.Held.{IsHeld}
+use Rattle.storage_report.specs.Given.{IsReported, IsUnreported}
+use Rattle.layout_spec.specs.declared.Known.{Known}
+use Rattle.region_report.specs.Reports.{ReportHeld}
+use Rattle.report_run.specs.declared.plans.Asked.{Asked}
+use Rattle.report_run.specs.declared.failures.Failure.{Failure}
+use Rattle.report_run.specs.declared.failures.Failure.TheVariants.{Memory}
+use Rattle.report_run.specs.Failures.{stop_failure}
+use Rattle.report_run.specs.Images.{TellsLayout, IsNotTold, IsSoughtReport, IsNoSoughtReport}
+use Rattle.report_run.specs.Logs.{IsUnlooked}
+use Rattle.report_run.specs.Messages.{Seen}
+use Rattle.report_run.specs.Plans.{map_of}
+
+abbrev pub names_of : Option (List ℕ) → List ℕ
+names_of None = []
+names_of (Some map) = map
+
+-- a storage is not looked for, or the image shows none
+abbrev pub IsNoStorage : Bool → Option (List ℕ) → Type 0
+IsNoStorage takes holds = IfSome holds (λ image. takes ≡ true → storage_in (front_of image) ≡ None)
+
+abbrev pub IsLookedAt : Bool → Option (List ℕ) → Option HeldStorage → Type 0
+IsLookedAt takes holds None = IsNoStorage takes holds
+IsLookedAt takes holds (Some h) = (takes ≡ true) × IsHeld holds (Some h)
+
+-- ---- the lines on a storage, and its report behind them
+
+abbrev pub lines_on : List ℕ → HeldStorage → List ℕ
+lines_on path h = storage_lines path h.storage h.bytes.items
+
+pub record IsStorageShown (asked : Asked) (path : List ℕ) (h : HeldStorage) (given now : Option (List ℕ)) (a b : Seen)
+    (report : ReportHeld) : Type 0 where
+  pub between : Option (List ℕ)
+  pub faults : ℕ
+  pub lines : TellsLayout asked.format (lines_on path h) given between faults faults a b
+  pub reported : IsReported asked.format path h (names_of (map_of asked.map)) asked.lines between now report
+
+-- memory ran out before the lines
+pub record IsUnbegun (given now : Option (List ℕ)) (a b : Seen) (why : Failure) : Type 0 where
+  pub why_is : why ≡ Memory
+  pub unput : now ≡ given
+  pub silent : b ≡ a
+
+-- or the report stopped behind them
+pub record IsStoppedBehind (asked : Asked) (path : List ℕ) (h : HeldStorage) (given now : Option (List ℕ))
+    (put_before put_now : ℕ) (a b : Seen) (why : Failure) : Type 0 where
+  pub between : Option (List ℕ)
+  pub lines : TellsLayout asked.format (lines_on path h) given between put_before put_before a b
+  pub stop : Stop
+  pub cause : IsUnreported asked.format path h (names_of (map_of asked.map)) asked.lines between now put_before put_now
+      stop
+  pub why_is : why ≡ stop_failure stop
+
+abbrev pub IsStorageUnshown : Asked → List ℕ → HeldStorage → Option (List ℕ) → Option (List ℕ) → ℕ → ℕ → Seen → Seen
+    → Failure → Type 0
+IsStorageUnshown asked path h given now put_before put_now a b why =
+    IsUnbegun given now a b why
+    ⊎ (IsNotTold asked.format (lines_on path h) given now put_before put_now a b why
+    ⊎ IsStoppedBehind asked path h given now put_before put_now a b why)
+
+-- ---- an image that is no text log
+
+-- it is a storage
+pub record IsAsStorage (asked : Asked) (path : List ℕ) (holds given now : Option (List ℕ)) (a b : Seen)
+    (report : ReportHeld) : Type 0 where
+  pub storage : HeldStorage
+  pub held : IsLookedAt asked.logs holds (Some storage)
+  pub reported : IsStorageShown asked path storage given now a b report
+
+-- or a layout was looked for
+pub record IsAsLaid (asked : Asked) (known : Known) (path : List ℕ) (holds given now : Option (List ℕ)) (a b : Seen)
+    (report : ReportHeld) : Type 0 where
+  pub no_storage : IsNoStorage asked.logs holds
+  pub reported : IsSoughtReport asked known path holds given now a b report
+
+abbrev pub IsUnloggedReport : Asked → Known → List ℕ → Option (List ℕ) → Option (List ℕ) → Option (List ℕ)
+    → Seen → Seen → ReportHeld → Type 0
+IsUnloggedReport asked known path holds given now a b report =
+    IsAsStorage asked path holds given now a b report ⊎ IsAsLaid asked known path holds given now a b report
+
+-- it could not be read: nothing was given out
+pub record IsUnseenStorage (read_before read_now : ℕ) (given now : Option (List ℕ)) (a b : Seen) (why : Failure)
+    : Type 0 where
+  pub cause : IsUnlooked read_before read_now why
+  pub unput : now ≡ given
+  pub silent : b ≡ a
+
+pub record IsNotAsStorage (asked : Asked) (path : List ℕ) (holds given now : Option (List ℕ)) (put_before put_now : ℕ)
+    (a b : Seen) (why : Failure) : Type 0 where
+  pub storage : HeldStorage
+  pub held : IsLookedAt asked.logs holds (Some storage)
+  pub cause : IsStorageUnshown asked path storage given now put_before put_now a b why
+
+pub record IsNotAsLaid (asked : Asked) (known : Known) (path : List ℕ) (holds : Option (List ℕ))
+    (read_before read_now : ℕ) (given now : Option (List ℕ)) (put_before put_now : ℕ) (a b : Seen) (why : Failure)
+    : Type 0 where
+  pub no_storage : IsNoStorage asked.logs holds
+  pub read_between : ℕ
+  pub later : read_before ≤ read_between
+  pub cause : IsNoSoughtReport asked known path holds read_between read_now given now put_before put_now a b why
+
+abbrev pub IsNoUnloggedReport : Asked → Known → List ℕ → Option (List ℕ) → ℕ → ℕ → Option (List ℕ) → Option (List ℕ)
+    → ℕ → ℕ → Seen → Seen → Failure → Type 0
+IsNoUnloggedReport asked known path holds read_before read_now given now put_before put_now a b why =
+    IsUnseenStorage read_before read_now given now a b why
+    ⊎ (IsNotAsStorage asked path holds given now put_before put_now a b why
+    ⊎ IsNotAsLaid asked known path holds read_before read_now given now put_before put_now a b why)

@@ -1,0 +1,11 @@
+//! The report of a storage that the kernel's pstore_zone wrote: found in an image by the headers that stand there, read
+//! by its zones, and shown as the report of a region is.
+#![tactic(auto)]
+
+mod loading;
+mod reading;
+mod showing;
+
+pub use loading::{HeldStorage, held_storage};
+pub use reading::{StorageRead, read};
+pub use showing::report;

@@ -1,0 +1,158 @@
+//! Prints what the report of each storage beside it has: the lines on it, why the machine died, and of each record that
+//! is saved its name, its length and its MD5. Then the same of a storage whose headers are damaged in one way after
+//! another.
+#![tactic(auto)]
+
+ghost use Rattle.std.specs.Prelude.{None};
+
+use md5::{Digest, Md5};
+use outside::{Bytes, Calls, Failed, FileLoad, Load, MemSink, MemStore};
+use region_report::Report;
+use report_tool::{Folder, Format, save};
+use std::alloc::{AllocError, Global};
+use std::{fs, io};
+use storage_report::{HeldStorage, held_storage, report};
+use symbols::Symbols;
+
+/// The most bytes of a report's text.
+const MOST: u32 = 1_048_576;
+
+/// A folder that keeps a line of each file.
+#[derive(Drop)]
+struct Lines {
+    alloc: Global,
+    text: String,
+    faults: u64,
+}
+
+fn line(alloc: Global, name: &str, content: &[u8]) -> Result<String, AllocError> {
+    let digest = hex::encode(alloc, Md5::digest(content))?;
+    let len = content.len();
+    format!(in alloc; "{name} {len} {digest}\n")
+}
+
+impl Folder for Lines {
+    ghost made = { λ _. None };
+
+    ghost faults = { λ s. s.faults };
+
+    fn make(&mut self, name: &str, content: &[u8]) -> Result<(), Failed> {
+        if let Ok(line) = line(self.alloc, name, content)
+            && self.text.push_str(&line).is_ok()
+        {
+            return Ok(());
+        }
+        self.faults = self.faults.saturating_add(1);
+        Err(Failed)
+    }
+}
+
+// The lines of a text that begin so.
+fn show_lines<R: Print>(rt: &R, text: &str, front: &str) -> io::Result<()> {
+    for line in text.lines() {
+        if line.starts_with(front) {
+            println!(rt; "{line}")?;
+        }
+    }
+    Ok(())
+}
+
+fn show_text<R: Print>(rt: &R, bytes: &[u8]) -> io::Result<()> {
+    let Ok(text) = str::from_utf8(bytes) else {
+        return println!(rt; "the text is no UTF-8");
+    };
+    show_lines(rt, text, "died: ")?;
+    show_lines(rt, text, "  signature ")?;
+    show_lines(rt, text, "  told by ")?;
+    show_lines(rt, text, "zones ")
+}
+
+fn show_records<R: Print + AllocGlobal>(rt: &R, report: &Report) -> io::Result<()> {
+    let mut lines = Lines {
+        alloc: rt.alloc(),
+        text: String::new(rt.alloc()),
+        faults: 0,
+    };
+    match save(&mut lines, report) {
+        Ok(()) => print!(rt; "{}", lines.text),
+        Err(Failed) => println!(rt; "not saved"),
+    }
+}
+
+fn show_held<R: Print + AllocGlobal>(rt: &R, name: &str, held: &HeldStorage) -> io::Result<()> {
+    let alloc = rt.alloc();
+    print!(rt; "{}", held.lines(alloc, name)?)?;
+    let symbols = Symbols::none(alloc);
+    let mut out = MemSink::new(alloc, MOST, Calls::new(alloc, &[])?)?;
+    match report(alloc, held, &symbols, 0, Format::Text, name, &mut out) {
+        Ok(report) => {
+            show_text(rt, out.bytes())?;
+            show_records(rt, &report)
+        }
+        Err(_) => println!(rt; "{name}: not reported"),
+    }
+}
+
+fn show<R: Print + AllocGlobal, M: Load>(rt: &R, name: &str, image: &mut M) -> io::Result<()> {
+    match held_storage(rt.alloc(), image) {
+        Ok(Some(held)) => show_held(rt, name, &held),
+        Ok(None) => println!(rt; "{name}: no storage"),
+        Err(_) => println!(rt; "{name}: not read"),
+    }
+}
+
+// The first bytes of a storage, so many at most, with some from a place on exchanged.
+fn damaged(
+    alloc: Global,
+    bytes: &[u8],
+    len: usize,
+    at: usize,
+    with: &[u8],
+) -> Result<Vec<u8>, AllocError> {
+    let mut copy = Vec::from_slice(alloc, bytes)?;
+    if at <= copy.len() && with.len() <= copy.len() - at {
+        copy[at..at + with.len()].copy_from_slice(with);
+    }
+    copy.truncate(len);
+    Ok(copy)
+}
+
+fn show_damaged<R: Print + AllocGlobal>(rt: &R, name: &str, bytes: Vec<u8>) -> io::Result<()> {
+    let bytes = Bytes::from_vec(bytes);
+    if bytes.len() > MOST as usize {
+        return println!(rt; "{name}: too long");
+    }
+    let mut image = MemStore::new(bytes, MOST, Calls::new(rt.alloc(), &[])?)?;
+    show(rt, name, &mut image)
+}
+
+fn main(rt: HostRuntime) -> io::Result<()> {
+    let alloc = rt.alloc();
+    for name in ["stock-64", "stock-32"] {
+        let mut image = FileLoad::new(&rt, alloc, name)?;
+        show(&rt, name, &mut image)?;
+    }
+    let bytes = fs::read(&rt, "stock-64")?;
+    for (name, len, at, with) in [
+        (
+            "a length beyond the zone",
+            16384,
+            4100,
+            b"\xff\xff\xff\xff".as_slice(),
+        ),
+        (
+            "a length below the header",
+            16384,
+            4100,
+            b"\x0a\x00\x00\x00",
+        ),
+        ("an erased dump", 16384, 4100, b"\x00\x00\x00\x00"),
+        ("no magic number", 16384, 12300, b"\x00\x00\x00\x00"),
+        ("a start in a dump", 16384, 8, b"\x01\x00\x00\x00"),
+        ("one dump", 4100, 0, b"DBGC"),
+        ("less than a page", 4095, 0, b"DBGC"),
+    ] {
+        show_damaged(&rt, name, damaged(alloc, &bytes, len, at, with)?)?;
+    }
+    Ok(())
+}
