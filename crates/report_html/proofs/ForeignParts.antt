@@ -485,7 +485,7 @@ stamp-bytes text line h = by (nat_lt line.stamp line.caller)
     by true =
         AreBytes-drop (prefix_len is_ascii_whitespace inner) inner
         (AreBytes-take (line.caller - 1 - from) (drop from text) (AreBytes-drop from text h))
-    by false = λ i. arith
+    by false = λ i. omega arith
 
 joins-machine : (m : MachineTold) → AreMachineBytes m → Joins (machine_bytes m)
 joins-machine m h =

@@ -61,9 +61,9 @@ returns-clause-parts c =
     let e6 : p6 ≡ p5 ++ a6 = c.in_ok-add_before.ensures.parts
     ∙ ap (λ (q : RecordShown). p5 ++ before_parts (told_before q.name records)) c.teller.view_is in
     let e7 : p7 ≡ p6 ++ a7 = c.in_ok-add_teller.ensures
-    ∙ ap (λ (bs : List ℕ). p6 ++ teller_parts c.teller.now.name bs)
-    (c.console_text.ensures ∙ ap (λ (r : Option RecordShown). console_words t r) c.console-2.ensures)
-    ∙ ap (λ (q : RecordShown). p6 ++ teller_parts q.name words) c.teller.view_is in
+    ∙ ap (λ (q : RecordShown). p6 ++ teller_parts q.name c.console_text.result.now) c.teller.view_is
+    ∙ ap (λ (bs : List ℕ). p6 ++ teller_parts t.teller.name bs)
+    (c.console_text.ensures ∙ ap (λ (r : Option RecordShown). console_words t r) c.console-2.ensures) in
     let e8 : p8 ≡ p7 ++ a8 = c.in_ok-add_around.ensures.parts
     ∙ ap (λ (bs : List ℕ). p7 ++ around_parts bs t.death) c.readable-text.ensures in
     let e9 : p9 ≡ p8 ++ a9 = c.in_ok-add.ensures in
