@@ -10,6 +10,24 @@ use report_tool::{Format, Known, Plan, find};
 use std::alloc::{AllocError, Global};
 use symbols::Symbols;
 
+/// A copy of all of a machine's memory.
+#[derive(Clone, Copy)]
+pub struct WholeMemory {
+    /// The address of its first byte; 0 if that is not known.
+    pub base: u64,
+    /// The place of the region in it, if one is named.
+    pub place: Option<u64>,
+}
+
+/// How much of a file is wanted.
+#[derive(Clone, Copy)]
+pub enum Wanted {
+    /// At most so many bytes of the image in it.
+    Front(u32),
+    /// All of it, as it stands.
+    Whole,
+}
+
 /// How images are reported.
 #[derive(Drop)]
 pub struct Asked {
@@ -22,6 +40,8 @@ pub struct Asked {
     pub map: Option<Vec<u8>>,
     /// Whether an image of which no layout is known is looked at for a text log.
     pub logs: bool,
+    /// If the files are whole memories, in which the regions are reported.
+    pub memory: Option<WholeMemory>,
     /// Whether the records are saved.
     pub saves: bool,
     /// Whether standard error is told how many of several images are done.

@@ -1,0 +1,189 @@
+// Which regions of a whole memory are reported.
+ghost use Rattle.std.specs.Prelude.{◌≡◌, ◌≤◌, [], ◌∷◌, string_bytes, IfOk, IfErr, MatchResult};
+ghost use Rattle.std.specs.List.{filter_map};
+ghost use Rattle.report_run.specs.Places.{region_in, finding_lines};
+ghost use Rattle.report_run.specs.Messages.{seen};
+ghost use Rattle.report_run.specs.Choice.{IsThere, IsNotThere, is_html, is_single, IsJudged, AreFound, AreNotFound};
+ghost use Rattle.report_run.specs.Choice.{AreChosen, AreUnchosen, IsFoundBy, IsUnread};
+
+use crate::failures::{Failure, unread_failure};
+use crate::messages::Messages;
+use crate::places::{finding_lines, places_text, regions_in};
+use crate::plans::{Asked, WholeMemory};
+use found_regions::{Finding, Region, Watch, findings, region_at};
+use outside::{Load, Sink};
+use report_tool::{Format, Known};
+use std::alloc::{AllocError, Global};
+
+fn only(alloc: Global, region: Region) -> Result<Vec<Region>, AllocError>
+    ensures { IfOk result (λ regions. regions.items ≡ region ∷ []) }
+{
+    Ok(vec![in alloc; region]?)
+}
+
+// The region at the place that is named.
+fn region_there<M: Load>(
+    alloc: Global,
+    known: &Known,
+    place: u64,
+    memory: &mut M,
+) -> Result<Vec<Region>, Failure>
+    ensures there { MatchResult result (λ regions. IsThere known.now place (M.holds memory.old) regions.items)
+        (IsNotThere known.now place (M.holds memory.old) (M.faults memory.old) (M.faults memory.new)) }
+    ensures same { M.holds memory.new ≡ M.holds memory.old }
+    ensures later { M.faults memory.old ≤ M.faults memory.new }
+{
+    match region_at(alloc, memory, known, place) {
+        Ok(Some(region)) => Ok(only(alloc, region)?),
+        Ok(None) => Err(Failure::NotThere),
+        Err(unread) => Err(unread_failure(unread)),
+    }
+}
+
+fn is_html(format: Format) -> bool
+    ensures { result ≡ is_html format }
+{
+    matches!(format, Format::Html)
+}
+
+fn is_single(asked: &Asked) -> bool
+    ensures { result ≡ is_single asked.now }
+{
+    is_html(asked.format) || asked.saves
+}
+
+// Why the regions that were found are not reported.
+fn refusal(
+    alloc: Global,
+    asked: &Asked,
+    base: u64,
+    regions: &[Region],
+) -> Result<Option<Failure>, AllocError>
+    ensures { IfOk result (IsJudged asked.now base regions.now) }
+{
+    if regions.is_empty() {
+        return Ok(Some(Failure::NoRegion));
+    }
+    if is_single(asked) && regions.len() > 1 {
+        let places = places_text(alloc, base, regions)?;
+        return Ok(Some(Failure::Several(places)));
+    }
+    Ok(None)
+}
+
+// What was found: the lines on what is no region, the regions, and why they are not reported.
+#[derive(Drop)]
+struct Judged {
+    lines: String,
+    regions: Vec<Region>,
+    refusal: Option<Failure>,
+}
+
+fn judged(
+    alloc: Global,
+    asked: &Asked,
+    path: &str,
+    base: u64,
+    findings: &[Finding],
+) -> Result<Judged, AllocError>
+    ensures lines { IfOk result (λ j. string_bytes j.lines ≡ finding_lines path.now base findings.now) }
+    ensures regions { IfOk result (λ j. j.regions.items ≡ filter_map region_in findings.now) }
+    ensures refusal { IfOk result (λ j. IsJudged asked.now base j.regions.items j.refusal) }
+{
+    let regions = regions_in(alloc, findings)?;
+    let refusal = refusal(alloc, asked, base, &regions)?;
+    let lines = finding_lines(alloc, path, base, findings)?;
+    Ok(Judged {
+        lines,
+        regions,
+        refusal,
+    })
+}
+
+// What was found in the memory, judged.
+fn searched<M: Load, W: Watch>(
+    alloc: Global,
+    asked: &Asked,
+    known: &Known,
+    path: &str,
+    base: u64,
+    memory: &mut M,
+    watch: &mut W,
+) -> Result<Judged, Failure>
+    ensures found { MatchResult result (IsFoundBy known.now path.now base (M.holds memory.old))
+        (IsUnread (M.faults memory.old) (M.faults memory.new)) }
+    ensures refusal { IfOk result (λ j. IsJudged asked.now base j.regions.items j.refusal) }
+    ensures same { M.holds memory.new ≡ M.holds memory.old }
+    ensures later { M.faults memory.old ≤ M.faults memory.new }
+{
+    let findings = match findings(alloc, memory, known, watch) {
+        Ok(findings) => findings,
+        Err(unread) => return Err(unread_failure(unread)),
+    };
+    let judged = judged(alloc, asked, path, base, &findings)?;
+    Ok(judged)
+}
+
+// All regions that are found. What is no region is told.
+fn regions_found<M: Load, W: Watch, E: Sink>(
+    alloc: Global,
+    asked: &Asked,
+    known: &Known,
+    path: &str,
+    base: u64,
+    memory: &mut M,
+    watch: &mut W,
+    messages: &mut Messages<E>,
+) -> Result<Vec<Region>, Failure>
+    ensures found { MatchResult result (λ regions. AreFound asked.now known.now path.now base (M.holds memory.old)
+        (seen (E.given messages.old.errors) (E.faults messages.old.errors) messages.old.is_lost)
+        (seen (E.given messages.new.errors) (E.faults messages.new.errors) messages.new.is_lost)
+        regions.items)
+        (AreNotFound asked.now known.now path.now base (M.holds memory.old) (M.faults memory.old) (M.faults memory.new)
+        (seen (E.given messages.old.errors) (E.faults messages.old.errors) messages.old.is_lost)
+        (seen (E.given messages.new.errors) (E.faults messages.new.errors) messages.new.is_lost)) }
+    ensures same { M.holds memory.new ≡ M.holds memory.old }
+    ensures later { M.faults memory.old ≤ M.faults memory.new }
+{
+    let Judged {
+        lines,
+        regions,
+        refusal,
+    } = searched(alloc, asked, known, path, base, memory, watch)?;
+    messages.tell(lines.as_bytes());
+    match refusal {
+        Some(why) => Err(why),
+        None => Ok(regions),
+    }
+}
+
+/// The regions that are reported: the one at the place that is named, or all that are found.
+pub fn regions_asked<M: Load, W: Watch, E: Sink>(
+    alloc: Global,
+    asked: &Asked,
+    known: &Known,
+    path: &str,
+    whole: WholeMemory,
+    memory: &mut M,
+    watch: &mut W,
+    messages: &mut Messages<E>,
+) -> Result<Vec<Region>, Failure>
+    ensures chosen { MatchResult result (λ regions. AreChosen whole.place asked.now known.now path.now whole.base
+        (M.holds memory.old)
+        (seen (E.given messages.old.errors) (E.faults messages.old.errors) messages.old.is_lost)
+        (seen (E.given messages.new.errors) (E.faults messages.new.errors) messages.new.is_lost)
+        regions.items)
+        (AreUnchosen whole.place asked.now known.now path.now whole.base (M.holds memory.old) (M.faults memory.old)
+        (M.faults memory.new)
+        (seen (E.given messages.old.errors) (E.faults messages.old.errors) messages.old.is_lost)
+        (seen (E.given messages.new.errors) (E.faults messages.new.errors) messages.new.is_lost)) }
+    ensures same { M.holds memory.new ≡ M.holds memory.old }
+    ensures later { M.faults memory.old ≤ M.faults memory.new }
+{
+    match whole.place {
+        Some(place) => region_there(alloc, known, place, memory),
+        None => regions_found(
+            alloc, asked, known, path, whole.base, memory, watch, messages,
+        ),
+    }
+}
