@@ -7,7 +7,7 @@ use grammar_spec::ParamFault;
 use kernel_line::{KernelLine, LineFault};
 use ramoops_layout::given;
 use report_entry::{Layouts, LayoutsFault, NoLayouts, Place, Said, layouts_by};
-use report_run::{WholeMemory, dressed};
+use report_run::{Logs, WholeMemory, dressed};
 use report_tool::{Format, add_order, add_tag, ftrace_tag, zone_order};
 use std::alloc::{AllocError, Global};
 use std::io::ErrorKind;
@@ -383,6 +383,17 @@ fn layouts_of<R: Runtime>(
     }
 }
 
+// Which images are text logs: all, if the words say so, and those that are a text, if nothing is said of a layout.
+fn logs_by(matches: &ArgMatches<'_>, is_silent: bool) -> Logs {
+    if matches.get_flag("log") {
+        Logs::All
+    } else if is_silent && !matches.get_flag("region") {
+        Logs::Texts
+    } else {
+        Logs::Never
+    }
+}
+
 /// How the images are to be read.
 pub fn asked_by<R: Runtime>(
     rt: &R,
@@ -413,7 +424,7 @@ pub fn asked_by<R: Runtime>(
             format,
             lines,
             map,
-            logs: words.is_empty() && memory.is_none() && !matches.get_flag("region"),
+            logs: logs_by(matches, words.is_empty() && memory.is_none()),
             memory: memory.map(|memory| memory.whole),
             saves: matches.get_str("save").is_some(),
             counts: terminal.is_errors,

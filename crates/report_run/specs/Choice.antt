@@ -12,7 +12,7 @@ use Rattle.found_regions.specs.Search.{AreFindings}
 use Rattle.report_tool.specs.declared.showing.Format.{Format}
 use Rattle.report_tool.specs.declared.showing.Format.TheVariants.{Html}
 use Rattle.report_run.specs.declared.plans.Asked.{Asked}
-use Rattle.report_run.specs.declared.choosing.Judged.{Judged}
+use Rattle.report_run.specs.declared.choosing.Survey.{Survey}
 use Rattle.report_run.specs.declared.failures.Failure.{Failure}
 use Rattle.report_run.specs.declared.failures.Failure.TheVariants.{Memory, Unread, NotThere, NoRegion, Several}
 use Rattle.report_run.specs.Messages.{Seen, IsTold}
@@ -64,20 +64,20 @@ IsJudged asked base regions None = AreTaken asked regions
 IsJudged asked base regions (Some why) = AreRefused asked base regions why
 
 -- what was found, with the lines on what is no region
-pub record IsFoundBy (known : Known) (path : List ℕ) (base : ℕ) (holds : Option (List ℕ)) (judged : Judged)
+pub record IsFoundBy (known : Known) (path : List ℕ) (base : ℕ) (holds : Option (List ℕ)) (survey : Survey)
     : Type 0 where
   pub findings : List Finding
   pub found : IfSome holds (λ memory. AreFindings known memory (marked memory) findings)
-  pub regions : judged.regions.items ≡ filter_map region_in findings
-  pub lines : string_bytes judged.lines ≡ finding_lines path base findings
+  pub regions : survey.regions.items ≡ filter_map region_in findings
+  pub lines : string_bytes survey.lines ≡ finding_lines path base findings
 
 -- they were told
 pub record IsSearched (known : Known) (path : List ℕ) (base : ℕ) (holds : Option (List ℕ)) (regions : List Region)
     (a b : Seen) : Type 0 where
-  pub judged : Judged
-  pub found : IsFoundBy known path base holds judged
-  pub regions_are : regions ≡ judged.regions.items
-  pub told : IsTold (string_bytes judged.lines) a b
+  pub survey : Survey
+  pub found : IsFoundBy known path base holds survey
+  pub regions_are : regions ≡ survey.regions.items
+  pub told : IsTold (string_bytes survey.lines) a b
 
 pub record AreFound (asked : Asked) (known : Known) (path : List ℕ) (base : ℕ) (holds : Option (List ℕ)) (a b : Seen)
     (regions : List Region) : Type 0 where

@@ -73,19 +73,19 @@ fn refusal(
 
 // What was found: the lines on what is no region, the regions, and why they are not reported.
 #[derive(Drop)]
-struct Judged {
+struct Survey {
     lines: String,
     regions: Vec<Region>,
     refusal: Option<Failure>,
 }
 
-fn judged(
+fn survey_of(
     alloc: Global,
     asked: &Asked,
     path: &str,
     base: u64,
     findings: &[Finding],
-) -> Result<Judged, AllocError>
+) -> Result<Survey, AllocError>
     ensures lines { IfOk result (λ j. string_bytes j.lines ≡ finding_lines path.now base findings.now) }
     ensures regions { IfOk result (λ j. j.regions.items ≡ filter_map region_in findings.now) }
     ensures refusal { IfOk result (λ j. IsJudged asked.now base j.regions.items j.refusal) }
@@ -93,14 +93,14 @@ fn judged(
     let regions = regions_in(alloc, findings)?;
     let refusal = refusal(alloc, asked, base, &regions)?;
     let lines = finding_lines(alloc, path, base, findings)?;
-    Ok(Judged {
+    Ok(Survey {
         lines,
         regions,
         refusal,
     })
 }
 
-// What was found in the memory, judged.
+// What was found in the memory, survey.
 fn searched<M: Load, W: Watch>(
     alloc: Global,
     asked: &Asked,
@@ -109,7 +109,7 @@ fn searched<M: Load, W: Watch>(
     base: u64,
     memory: &mut M,
     watch: &mut W,
-) -> Result<Judged, Failure>
+) -> Result<Survey, Failure>
     ensures found { MatchResult result (IsFoundBy known.now path.now base (M.holds memory.old))
         (IsUnread (M.faults memory.old) (M.faults memory.new)) }
     ensures refusal { IfOk result (λ j. IsJudged asked.now base j.regions.items j.refusal) }
@@ -120,8 +120,8 @@ fn searched<M: Load, W: Watch>(
         Ok(findings) => findings,
         Err(unread) => return Err(unread_failure(unread)),
     };
-    let judged = judged(alloc, asked, path, base, &findings)?;
-    Ok(judged)
+    let survey = survey_of(alloc, asked, path, base, &findings)?;
+    Ok(survey)
 }
 
 // All regions that are found. What is no region is told.
@@ -145,7 +145,7 @@ fn regions_found<M: Load, W: Watch, E: Sink>(
     ensures same { M.holds memory.new ≡ M.holds memory.old }
     ensures later { M.faults memory.old ≤ M.faults memory.new }
 {
-    let Judged {
+    let Survey {
         lines,
         regions,
         refusal,

@@ -17,6 +17,6 @@ mod running;
 pub use failures::Failure;
 pub use found_regions::Watch;
 pub use messages::Messages;
-pub use plans::{Asked, Wanted, WholeMemory, dressed};
+pub use plans::{Asked, Logs, Wanted, WholeMemory, dressed};
 pub use records::Records;
 pub use running::{Images, run, status_of};

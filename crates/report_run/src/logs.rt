@@ -1,46 +1,107 @@
 // An image that is a text log.
-ghost use Rattle.std.specs.Prelude.{◌≡◌, ◌≤◌, IfOk, IfErr, MatchResult};
+ghost use Rattle.std.specs.Prelude.{◌≡◌, ◌≤◌, Some, IfSome, IfOk, IfErr, MatchResult};
 ghost use Rattle.report_run.specs.Images.{IsStopped};
 ghost use Rattle.report_run.specs.Plans.{dressed as dressed_as, map_of};
-ghost use Rattle.report_run.specs.Logs.{IsLooked, IsUnlooked, IsLogUnreported};
+ghost use Rattle.report_run.specs.Logs.{IsSeenLog, whole_lines, text_in, log_text, IsLooked, IsUnlooked, IsLogUnreported};
+ghost use Rattle.log_image.specs.Images.{IsLogImage};
 ghost use Rattle.report_tool.specs.Images.{IsReported};
 
-use crate::failures::{Failure, stop_failure};
+use crate::failures::{Failure, stop_failure, unread_failure};
 use crate::images::report_by;
-use crate::plans::{Asked, dressed};
+use crate::plans::{Asked, Logs, dressed};
 use image_file::load_front;
 use log_image::{LogImage, log_image};
+use memory_regions::window;
 use outside::{Bytes, Load, Sink};
 use region_report::Report;
 use report_entry::Image;
-use std::alloc::Global;
+use std::alloc::{AllocError, Global};
 use text_log::is_text_log;
 
-/// So much of a log is read.
+/// So many bytes tell whether an image is a text.
+const FRONT: u32 = 65_536;
+
+/// So many bytes of a log are read.
 const MOST_LOG: u32 = 268_435_456;
 
-/// The log that an image is, if logs are looked for, as a region whose console holds its last boot.
-pub fn held_log<M: Load>(
-    alloc: Global,
-    takes: bool,
-    image: &mut M,
-) -> Result<Option<LogImage>, Failure>
-    ensures looked { IfOk result (IsLooked takes (M.holds image.old)) }
+// Whether an image is a text, as its front shows.
+fn is_text<M: Load>(alloc: Global, image: &mut M) -> Result<bool, Failure>
+    ensures seen { IfOk result (λ is. IsSeenLog is Logs.Texts (M.holds image.old)) }
     ensures unlooked { IfErr result (IsUnlooked (M.faults image.old) (M.faults image.new)) }
     ensures same { M.holds image.new ≡ M.holds image.old }
     ensures later { M.faults image.old ≤ M.faults image.new }
 {
-    if !takes {
-        return Ok(None);
+    match load_front(alloc, image, FRONT) {
+        Ok(front) => Ok(is_text_log(&front)),
+        Err(stop) => Err(stop_failure(stop)),
     }
-    let text = match load_front(alloc, image, MOST_LOG) {
-        Ok(text) => text,
-        Err(stop) => return Err(stop_failure(stop)),
+}
+
+fn is_log<M: Load>(alloc: Global, logs: Logs, image: &mut M) -> Result<bool, Failure>
+    ensures seen { IfOk result (λ is. IsSeenLog is logs (M.holds image.old)) }
+    ensures unlooked { IfErr result (IsUnlooked (M.faults image.old) (M.faults image.new)) }
+    ensures same { M.holds image.new ≡ M.holds image.old }
+    ensures later { M.faults image.old ≤ M.faults image.new }
+{
+    match logs {
+        Logs::Never => Ok(false),
+        Logs::Texts => is_text(alloc, image),
+        Logs::All => Ok(true),
+    }
+}
+
+// A text from the first line on that begins in it.
+fn whole_lines(text: &[u8]) -> &[u8]
+    ensures { result.now ≡ whole_lines text.now }
+{
+    match text.iter().position(|b| *b == b'\n') {
+        Some(at) => &text[at + 1..],
+        None => text,
+    }
+}
+
+// The image of a log's text, of which the last bytes are read, or all.
+fn image_of(alloc: Global, is_cut: bool, bytes: &[u8]) -> Result<LogImage, AllocError>
+    ensures { IfOk result (IsLogImage (text_in is_cut bytes.now)) }
+{
+    let text = if is_cut { whole_lines(bytes) } else { bytes };
+    log_image(alloc, text)
+}
+
+// A log as a region.
+fn log_of<M: Load>(alloc: Global, image: &mut M) -> Result<LogImage, Failure>
+    ensures image { IfOk result (λ l. IfSome (M.holds image.old) (λ bs. IsLogImage (log_text bs) l)) }
+    ensures unlooked { IfErr result (IsUnlooked (M.faults image.old) (M.faults image.new)) }
+    ensures same { M.holds image.new ≡ M.holds image.old }
+    ensures later { M.faults image.old ≤ M.faults image.new }
+{
+    let Ok(size) = image.size() else {
+        return Err(Failure::Unread);
     };
-    if !is_text_log(&text) {
+    let most = u64::from(MOST_LOG);
+    let bytes = match window(alloc, image, size.saturating_sub(most), MOST_LOG) {
+        Ok(bytes) => bytes,
+        Err(unread) => return Err(unread_failure(unread)),
+    };
+    let log = image_of(alloc, size > most, &bytes)?;
+    Ok(log)
+}
+
+/// The log that an image is, if logs are looked for, as a region whose console holds its last boot.
+pub fn held_log<M: Load>(
+    alloc: Global,
+    logs: Logs,
+    image: &mut M,
+) -> Result<Option<LogImage>, Failure>
+    ensures looked { IfOk result (IsLooked logs (M.holds image.old)) }
+    ensures unlooked { IfErr result (IsUnlooked (M.faults image.old) (M.faults image.new)) }
+    ensures same { M.holds image.new ≡ M.holds image.old }
+    ensures later { M.faults image.old ≤ M.faults image.new }
+{
+    if !is_log(alloc, logs, image)? {
         return Ok(None);
     }
-    let log = log_image(alloc, &text)?;
+    let log = log_of(alloc, image)?;
     Ok(Some(log))
 }
 

@@ -28,6 +28,17 @@ pub enum Wanted {
     Whole,
 }
 
+/// Which images of which no layout is known are text logs.
+#[derive(Clone, Copy)]
+pub enum Logs {
+    /// None.
+    Never,
+    /// Those that are a text.
+    Texts,
+    /// Each.
+    All,
+}
+
 /// How images are reported.
 #[derive(Drop)]
 pub struct Asked {
@@ -38,8 +49,8 @@ pub struct Asked {
     pub lines: usize,
     /// The map of the kernel's functions.
     pub map: Option<Vec<u8>>,
-    /// Whether an image of which no layout is known is looked at for a text log.
-    pub logs: bool,
+    /// Which images are text logs, where no layout is known.
+    pub logs: Logs,
     /// If the files are whole memories, in which the regions are reported.
     pub memory: Option<WholeMemory>,
     /// Whether the records are saved.
