@@ -1,7 +1,9 @@
--- Messages on the best layout, reports behind the lines on a layout, files and regions one after another. `tell_failure`,
--- `sought_report`, `report_path`, `run` and `report_regions` cite them.
+-- Messages on the best layout, reports behind the lines on a layout, files and regions one after another, and regions
+-- under their names. `tell_failure`, `sought_report`, `report_path`, `run`, `report_regions`, `report_named` and
+-- `report_given` cite them.
 mod BestLines
 mod LogEnds
+mod NamedRegions
 mod RegionSteps
 mod ReportEnds
 mod RunSteps

@@ -5,9 +5,8 @@ use Rattle.std.proofs.lemmas.List.{drop_all}
 use Rattle.found_regions.specs.declared.region.Region.{Region}
 use Rattle.report_run.specs.declared.plans.Asked.{Asked}
 use Rattle.report_run.specs.declared.failures.Failure.{Failure}
-use Rattle.report_run.specs.Regions.{IsRegionDone, IsRegionUndone}
 use Rattle.report_run.specs.States.{State}
-use Rattle.report_run.specs.Memories.{AreRegionsDone, IsRegionFailed, AreRegionsUndone}
+use Rattle.report_run.specs.Memories.{IsNamedDone, IsNamedUndone, AreRegionsDone, IsRegionFailed, AreRegionsUndone}
 
 module _ (asked : Asked) (path : List ℕ) (base : ℕ) (holds : Option (List ℕ)) (regions : List Region) (start : State)
     (first : ℕ) where
@@ -29,11 +28,11 @@ module _ (asked : Asked) (path : List ℕ) (base : ℕ) (holds : Option (List �
       ∙ ap (λ k. region ∷ drop k regions) (sym (add-one i)))
 
   pub one_done : (i : ℕ) (region : Region) (held : Option (List ℕ)) (s m : State) → i < length regions
-      → region ≡ get_or regions i region → held ≡ holds → IsRegionDone asked path base region held s m
+      → region ≡ get_or regions i region → held ≡ holds → IsNamedDone asked path base region held s m
       → Continues i s → Continues (i + 1) m
   unfolding AreRegionsDone, AreRegionsUndone
   one_done i region held s m inside is same one so_far =
-      let here = subst (λ (h : Option (List ℕ)). IsRegionDone asked path base region h s m) same one in
+      let here = subst (λ (h : Option (List ℕ)). IsNamedDone asked path base region h s m) same one in
       record {
         done = λ after h. so_far.done after
             (subst (λ (rs : List Region). AreRegionsDone asked path base holds rs s after) (from i region inside is)
@@ -45,7 +44,7 @@ module _ (asked : Asked) (path : List ℕ) (base : ℕ) (holds : Option (List �
 
   pub one_failed : (i : ℕ) (region : Region) (held : Option (List ℕ)) (s after : State) (before now : ℕ)
       (why : Failure) → i < length regions → region ≡ get_or regions i region → held ≡ holds → first ≤ before
-      → IsRegionUndone asked path base region held before now s after why → Continues i s
+      → IsNamedUndone asked path base region held before now s after why → Continues i s
       → AreRegionsUndone asked path base holds first now regions start after why
   unfolding AreRegionsUndone
   one_failed i region held s after before now why inside is same later one so_far =
@@ -55,7 +54,7 @@ module _ (asked : Asked) (path : List ℕ) (base : ℕ) (holds : Option (List �
       (inl (record {
         read_before = before;
         later = later;
-        undone = subst (λ (h : Option (List ℕ)). IsRegionUndone asked path base region h before now s after why) same
+        undone = subst (λ (h : Option (List ℕ)). IsNamedUndone asked path base region h before now s after why) same
             one;
       })))
 

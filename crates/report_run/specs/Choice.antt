@@ -1,7 +1,6 @@
 -- Which regions of a whole memory are reported, and why none is
-use Rattle.std.specs.Prelude.{◌≡◌, ◌⊎◌, ⊤, ℕ, ◌<◌, Bool, true, false, ◌||◌, List, [], ◌∷◌, length, Option, Some, None}
+use Rattle.std.specs.Prelude.{◌≡◌, ◌⊎◌, ⊤, ℕ, ◌<◌, nat_lt, Bool, true, false, ◌||◌, ◌&&◌, List, [], ◌∷◌, length, Option, Some, None}
 use Rattle.std.specs.Prelude.{IfSome, string_bytes}
-use Rattle.std.specs.List.{filter_map}
 use Rattle.outside.specs.Outside.{Rose}
 use Rattle.memory_spec.specs.Pages.{marked}
 use Rattle.layout_spec.specs.declared.Known.{Known}
@@ -16,7 +15,7 @@ use Rattle.report_run.specs.declared.choosing.Survey.{Survey}
 use Rattle.report_run.specs.declared.failures.Failure.{Failure}
 use Rattle.report_run.specs.declared.failures.Failure.TheVariants.{Memory, Unread, NotThere, NoRegion, Several}
 use Rattle.report_run.specs.Messages.{Seen, IsTold}
-use Rattle.report_run.specs.Places.{places_text, finding_lines, region_in}
+use Rattle.report_run.specs.Places.{places_text, finding_lines, regions_in}
 
 -- ---- the region at a place that is named
 
@@ -43,32 +42,28 @@ abbrev pub is_html : Format → Bool
 is_html Html = true
 is_html other = false
 
--- a page shows one region, and the records of one are saved
-abbrev pub is_single : Asked → Bool
-is_single asked = is_html asked.format || asked.saves
+-- a page shows one region, and the records of one are saved: of several one must be chosen
+abbrev pub must_choose : Asked → List Region → Bool
+must_choose asked regions = (is_html asked.format || asked.saves) && nat_lt 1 (length regions)
 
--- there is one, and more only if more can be reported
 pub record AreTaken (asked : Asked) (regions : List Region) : Type 0 where
   pub some : 0 < length regions
-  pub single : is_single asked ≡ true → length regions ≡ 1
+  pub none_chosen : must_choose asked regions ≡ false
 
--- there is none, or one must be chosen
+-- there is none, one must be chosen, or memory ran out
 abbrev pub AreRefused : Asked → ℕ → List Region → Failure → Type 0
-AreRefused asked base regions NoRegion = regions ≡ []
+AreRefused asked base regions NoRegion = length regions ≡ 0
 AreRefused asked base regions (Several places) =
-    (is_single asked ≡ true) × (1 < length regions) × (string_bytes places ≡ places_text base regions)
+    (must_choose asked regions ≡ true) × (string_bytes places ≡ places_text base regions)
+AreRefused asked base regions Memory = ⊤
 AreRefused asked base regions other = ⊥
-
-abbrev pub IsJudged : Asked → ℕ → List Region → Option Failure → Type 0
-IsJudged asked base regions None = AreTaken asked regions
-IsJudged asked base regions (Some why) = AreRefused asked base regions why
 
 -- what was found, with the lines on what is no region
 pub record IsFoundBy (known : Known) (path : List ℕ) (base : ℕ) (holds : Option (List ℕ)) (survey : Survey)
     : Type 0 where
   pub findings : List Finding
   pub found : IfSome holds (λ memory. AreFindings known memory (marked memory) findings)
-  pub regions : survey.regions.items ≡ filter_map region_in findings
+  pub regions : survey.regions.items ≡ regions_in findings
   pub lines : string_bytes survey.lines ≡ finding_lines path base findings
 
 -- they were told

@@ -13,22 +13,32 @@ use Rattle.report_run.specs.declared.failures.Failure.TheVariants.{NoPlace, Memo
 use Rattle.report_run.specs.Choice.{AreChosen, AreUnchosen}
 use Rattle.report_run.specs.Messages.{Seen}
 use Rattle.report_run.specs.Places.{region_name}
-use Rattle.report_run.specs.Regions.{IsPlaceDone, IsPlaceUndone, IsRegionDone, IsRegionUndone}
+use Rattle.report_run.specs.Regions.{IsPlaceDone, IsPlaceUndone, IsRegionDone, IsRegionUntold, IsRegionUndone}
 use Rattle.report_run.specs.States.{State}
 
 -- ---- regions, one after another
 
+pub record IsNamedDone (asked : Asked) (path : List ℕ) (base : ℕ) (region : Region) (holds : Option (List ℕ))
+    (a b : State) : Type 0 where
+  pub done : IsRegionDone asked (region_name path base region.place) region holds a b
+
 unfoldable pub AreRegionsDone : Asked → List ℕ → ℕ → Option (List ℕ) → List Region → State → State → Type 0
 AreRegionsDone asked path base holds [] a b = b ≡ a
 AreRegionsDone asked path base holds (region ∷ regions) a b =
-    (m : State) × IsRegionDone asked path base region holds a m × AreRegionsDone asked path base holds regions m b
+    (m : State) × IsNamedDone asked path base region holds a m × AreRegionsDone asked path base holds regions m b
+
+-- memory ran out before, or it was not done
+abbrev pub IsNamedUndone : Asked → List ℕ → ℕ → Region → Option (List ℕ) → ℕ → ℕ → State → State → Failure → Type 0
+IsNamedUndone asked path base region holds read_before read_now a b why =
+    IsRegionUntold a b why
+    ⊎ IsRegionUndone asked (region_name path base region.place) region holds read_before read_now a b why
 
 -- by the memory's count of faults before the first region and now
 pub record IsRegionFailed (asked : Asked) (path : List ℕ) (base : ℕ) (region : Region) (holds : Option (List ℕ))
     (read_first read_now : ℕ) (a b : State) (why : Failure) : Type 0 where
   pub read_before : ℕ
   pub later : read_first ≤ read_before
-  pub undone : IsRegionUndone asked path base region holds read_before read_now a b why
+  pub undone : IsNamedUndone asked path base region holds read_before read_now a b why
 
 -- the first that fails ends it
 unfoldable pub AreRegionsUndone : Asked → List ℕ → ℕ → Option (List ℕ) → ℕ → ℕ → List Region → State → State → Failure
@@ -36,7 +46,7 @@ unfoldable pub AreRegionsUndone : Asked → List ℕ → ℕ → Option (List �
 AreRegionsUndone asked path base holds read_first read_now [] a b why = ⊥
 AreRegionsUndone asked path base holds read_first read_now (region ∷ regions) a b why =
     IsRegionFailed asked path base region holds read_first read_now a b why
-    ⊎ ((m : State) × IsRegionDone asked path base region holds a m
+    ⊎ ((m : State) × IsNamedDone asked path base region holds a m
     × AreRegionsUndone asked path base holds read_first read_now regions m b why)
 
 -- ---- a layout that is given: the region at the place that is named; nothing goes to standard error

@@ -14,8 +14,11 @@ abbrev pub region_name : List ℕ → ℕ → ℕ → List ℕ
 region_name path base place = path ++ codes "@" ++ place_text base place
 
 -- the places of regions, each after a space
+abbrev pub place_after : ℕ → Region → List ℕ
+place_after base region = codes " " ++ place_text base region.place
+
 abbrev pub places_text : ℕ → List Region → List ℕ
-places_text base regions = flat_map (λ (r : Region). codes " " ++ place_text base r.place) regions
+places_text base regions = flat_map (place_after base) regions
 
 -- a larger size that explains as much
 abbrev pub larger_line : Option ℕ → List ℕ
@@ -41,8 +44,11 @@ finding_line path base (Unseen place) = unseen_line path base place
 abbrev pub finding_lines : List ℕ → ℕ → List Finding → List ℕ
 finding_lines path base findings = flat_map (finding_line path base) findings
 
--- the region that was found
-abbrev pub region_in : Finding → Option Region
-region_in (Shown region) = Some region
-region_in (Unexplained place) = None
-region_in (Unseen place) = None
+-- the regions that were found, in order
+abbrev pub region_list : Finding → List Region
+region_list (Shown region) = region ∷ []
+region_list (Unexplained place) = []
+region_list (Unseen place) = []
+
+abbrev pub regions_in : List Finding → List Region
+regions_in findings = flat_map region_list findings

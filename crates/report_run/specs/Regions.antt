@@ -16,7 +16,7 @@ use Rattle.report_run.specs.declared.regions.RegionTold.{RegionTold}
 use Rattle.report_run.specs.declared.failures.Failure.{Failure}
 use Rattle.report_run.specs.declared.failures.Failure.TheVariants.{Memory, Unread, Beyond}
 use Rattle.report_run.specs.Images.{IsStoppedAt, TellsLayout, IsNotTold}
-use Rattle.report_run.specs.Places.{region_name, larger_line}
+use Rattle.report_run.specs.Places.{larger_line}
 use Rattle.report_run.specs.Plans.{dressed, map_of}
 use Rattle.report_run.specs.Saving.{IsSaved, IsUnsaved}
 use Rattle.report_run.specs.States.{State}
@@ -24,12 +24,9 @@ use Rattle.report_run.specs.States.{State}
 -- ---- the bytes of a region
 
 -- so many bytes from a place on, which the memory has
-pub record IsPart (place size : ℕ) (bytes memory : List ℕ) : Type 0 where
-  pub within : place + size ≤ length memory
-  pub are : bytes ≡ take size (drop place memory)
-
-abbrev pub IsHeld : ℕ → ℕ → Option (List ℕ) → List ℕ → Type 0
-IsHeld place size holds bytes = IfSome holds (IsPart place size bytes)
+pub record IsHeld (place size : ℕ) (holds : Option (List ℕ)) (bytes : List ℕ) : Type 0 where
+  pub within : IfSome holds (λ memory. place + size ≤ length memory)
+  pub are : IfSome holds (λ memory. bytes ≡ take size (drop place memory))
 
 pub record IsBeyond (place size has : ℕ) (holds : Option (List ℕ)) : Type 0 where
   pub beyond : has < place + size
@@ -99,20 +96,18 @@ pub record IsRegionPlan (asked : Asked) (found : Found) (plan : Plan) : Type 0 w
   pub laid : IsLaid (params_of found.candidate) base
   pub is : plan ≡ dressed base asked.lines (map_of asked.map)
 
-pub record IsRegionTold (asked : Asked) (path : List ℕ) (base : ℕ) (region : Region) (told : RegionTold)
-    : Type 0 where
-  pub name : string_bytes told.name ≡ region_name path base region.place
-  pub lines : AreRegionLines (region_name path base region.place) region (string_bytes told.lines)
+pub record IsRegionTold (asked : Asked) (name : List ℕ) (region : Region) (told : RegionTold) : Type 0 where
+  pub lines : AreRegionLines name region (string_bytes told.lines)
   pub plan : IsRegionPlan asked region.found told.plan
 
-pub record IsRegionDone (asked : Asked) (path : List ℕ) (base : ℕ) (region : Region) (holds : Option (List ℕ))
-    (a b : State) : Type 0 where
+pub record IsRegionDone (asked : Asked) (name : List ℕ) (region : Region) (holds : Option (List ℕ)) (a b : State)
+    : Type 0 where
   pub told : RegionTold
-  pub is_told : IsRegionTold asked path base region told
+  pub is_told : IsRegionTold asked name region told
   pub between : Option (List ℕ)
   pub faults : ℕ
-  pub lines : TellsLayout asked.format (string_bytes told.lines) a.out between faults faults a.errors b.errors
-  pub done : IsPlaceDone asked told.plan (string_bytes told.name) region.place holds between b.out a.files b.files
+  pub lines : TellsLayout asked.format (string_bytes told.lines) a.out between a.out_faults faults a.errors b.errors
+  pub done : IsPlaceDone asked told.plan name region.place holds between b.out a.files b.files
 
 -- memory ran out before
 pub record IsRegionUntold (a b : State) (why : Failure) : Type 0 where
@@ -120,27 +115,26 @@ pub record IsRegionUntold (a b : State) (why : Failure) : Type 0 where
   pub same : b ≡ a
 
 -- or the lines failed
-pub record IsRegionCut (asked : Asked) (path : List ℕ) (base : ℕ) (region : Region) (a b : State) (why : Failure)
-    : Type 0 where
+pub record IsRegionCut (asked : Asked) (name : List ℕ) (region : Region) (a b : State) (why : Failure) : Type 0 where
   pub told : RegionTold
-  pub is_told : IsRegionTold asked path base region told
+  pub is_told : IsRegionTold asked name region told
   pub cause : IsNotTold asked.format (string_bytes told.lines) a.out b.out a.out_faults b.out_faults a.errors b.errors
       why
   pub unmade : b.files ≡ a.files
 
 -- or what comes behind them did
-pub record IsRegionStopped (asked : Asked) (path : List ℕ) (base : ℕ) (region : Region) (holds : Option (List ℕ))
+pub record IsRegionStopped (asked : Asked) (name : List ℕ) (region : Region) (holds : Option (List ℕ))
     (read_before read_now : ℕ) (a b : State) (why : Failure) : Type 0 where
   pub told : RegionTold
-  pub is_told : IsRegionTold asked path base region told
+  pub is_told : IsRegionTold asked name region told
   pub between : Option (List ℕ)
-  pub lines : TellsLayout asked.format (string_bytes told.lines) a.out between a.out_faults a.out_faults a.errors
-      b.errors
-  pub cause : IsPlaceUndone asked told.plan (string_bytes told.name) region.place holds read_before read_now between
-      b.out a.out_faults b.out_faults a.files b.files why
+  pub faults : ℕ
+  pub lines : TellsLayout asked.format (string_bytes told.lines) a.out between a.out_faults faults a.errors b.errors
+  pub cause : IsPlaceUndone asked told.plan name region.place holds read_before read_now between b.out faults
+      b.out_faults a.files b.files why
 
-abbrev pub IsRegionUndone : Asked → List ℕ → ℕ → Region → Option (List ℕ) → ℕ → ℕ → State → State → Failure → Type 0
-IsRegionUndone asked path base region holds read_before read_now a b why =
+abbrev pub IsRegionUndone : Asked → List ℕ → Region → Option (List ℕ) → ℕ → ℕ → State → State → Failure → Type 0
+IsRegionUndone asked name region holds read_before read_now a b why =
     IsRegionUntold a b why
-    ⊎ (IsRegionCut asked path base region a b why
-    ⊎ IsRegionStopped asked path base region holds read_before read_now a b why)
+    ⊎ (IsRegionCut asked name region a b why
+    ⊎ IsRegionStopped asked name region holds read_before read_now a b why)

@@ -1,10 +1,9 @@
 // Which regions of a whole memory are reported.
-ghost use Rattle.std.specs.Prelude.{◌≡◌, ◌≤◌, [], ◌∷◌, string_bytes, IfOk, IfErr, MatchResult};
-ghost use Rattle.std.specs.List.{filter_map};
-ghost use Rattle.report_run.specs.Places.{region_in, finding_lines};
+ghost use Rattle.std.specs.Prelude.{◌≡◌, ◌≤◌, [], ◌∷◌, string_bytes, IfOk, MatchResult};
+ghost use Rattle.report_run.specs.Places.{regions_in, finding_lines};
 ghost use Rattle.report_run.specs.Messages.{seen};
-ghost use Rattle.report_run.specs.Choice.{IsThere, IsNotThere, is_html, is_single, IsJudged, AreFound, AreNotFound};
-ghost use Rattle.report_run.specs.Choice.{AreChosen, AreUnchosen, IsFoundBy, IsUnread};
+ghost use Rattle.report_run.specs.Choice.{IsThere, IsNotThere, is_html, must_choose, AreTaken, AreRefused, IsFoundBy};
+ghost use Rattle.report_run.specs.Choice.{IsUnread, AreFound, AreNotFound, AreChosen, AreUnchosen};
 
 use crate::failures::{Failure, unread_failure};
 use crate::messages::Messages;
@@ -46,64 +45,51 @@ fn is_html(format: Format) -> bool
     matches!(format, Format::Html)
 }
 
-fn is_single(asked: &Asked) -> bool
-    ensures { result ≡ is_single asked.now }
+// Whether one of several regions must be chosen.
+fn must_choose(asked: &Asked, regions: &[Region]) -> bool
+    ensures { result ≡ must_choose asked.now regions.now }
 {
-    is_html(asked.format) || asked.saves
+    (is_html(asked.format) || asked.saves) && regions.len() > 1
 }
 
-// Why the regions that were found are not reported.
-fn refusal(
-    alloc: Global,
-    asked: &Asked,
-    base: u64,
-    regions: &[Region],
-) -> Result<Option<Failure>, AllocError>
-    ensures { IfOk result (IsJudged asked.now base regions.now) }
+// Whether the regions that were found are reported.
+fn judge(alloc: Global, asked: &Asked, base: u64, regions: &[Region]) -> Result<(), Failure>
+    ensures { MatchResult result (λ _. AreTaken asked.now regions.now) (AreRefused asked.now base regions.now) }
 {
     if regions.is_empty() {
-        return Ok(Some(Failure::NoRegion));
+        return Err(Failure::NoRegion);
     }
-    if is_single(asked) && regions.len() > 1 {
+    if must_choose(asked, regions) {
         let places = places_text(alloc, base, regions)?;
-        return Ok(Some(Failure::Several(places)));
+        return Err(Failure::Several(places));
     }
-    Ok(None)
+    Ok(())
 }
 
-// What was found: the lines on what is no region, the regions, and why they are not reported.
+// What was found: the regions, and the lines on what is none.
 #[derive(Drop)]
 struct Survey {
     lines: String,
     regions: Vec<Region>,
-    refusal: Option<Failure>,
 }
 
 fn survey_of(
     alloc: Global,
-    asked: &Asked,
     path: &str,
     base: u64,
     findings: &[Finding],
 ) -> Result<Survey, AllocError>
-    ensures lines { IfOk result (λ j. string_bytes j.lines ≡ finding_lines path.now base findings.now) }
-    ensures regions { IfOk result (λ j. j.regions.items ≡ filter_map region_in findings.now) }
-    ensures refusal { IfOk result (λ j. IsJudged asked.now base j.regions.items j.refusal) }
+    ensures lines { IfOk result (λ s. string_bytes s.lines ≡ finding_lines path.now base findings.now) }
+    ensures regions { IfOk result (λ s. s.regions.items ≡ regions_in findings.now) }
 {
     let regions = regions_in(alloc, findings)?;
-    let refusal = refusal(alloc, asked, base, &regions)?;
     let lines = finding_lines(alloc, path, base, findings)?;
-    Ok(Survey {
-        lines,
-        regions,
-        refusal,
-    })
+    Ok(Survey { lines, regions })
 }
 
-// What was found in the memory, survey.
+// What was found in the memory.
 fn searched<M: Load, W: Watch>(
     alloc: Global,
-    asked: &Asked,
     known: &Known,
     path: &str,
     base: u64,
@@ -112,7 +98,6 @@ fn searched<M: Load, W: Watch>(
 ) -> Result<Survey, Failure>
     ensures found { MatchResult result (IsFoundBy known.now path.now base (M.holds memory.old))
         (IsUnread (M.faults memory.old) (M.faults memory.new)) }
-    ensures refusal { IfOk result (λ j. IsJudged asked.now base j.regions.items j.refusal) }
     ensures same { M.holds memory.new ≡ M.holds memory.old }
     ensures later { M.faults memory.old ≤ M.faults memory.new }
 {
@@ -120,7 +105,7 @@ fn searched<M: Load, W: Watch>(
         Ok(findings) => findings,
         Err(unread) => return Err(unread_failure(unread)),
     };
-    let survey = survey_of(alloc, asked, path, base, &findings)?;
+    let survey = survey_of(alloc, path, base, &findings)?;
     Ok(survey)
 }
 
@@ -145,16 +130,10 @@ fn regions_found<M: Load, W: Watch, E: Sink>(
     ensures same { M.holds memory.new ≡ M.holds memory.old }
     ensures later { M.faults memory.old ≤ M.faults memory.new }
 {
-    let Survey {
-        lines,
-        regions,
-        refusal,
-    } = searched(alloc, asked, known, path, base, memory, watch)?;
+    let Survey { lines, regions } = searched(alloc, known, path, base, memory, watch)?;
     messages.tell(lines.as_bytes());
-    match refusal {
-        Some(why) => Err(why),
-        None => Ok(regions),
-    }
+    judge(alloc, asked, base, &regions)?;
+    Ok(regions)
 }
 
 /// The regions that are reported: the one at the place that is named, or all that are found.

@@ -2,7 +2,8 @@
 ghost use Rattle.std.specs.Prelude.{◌≡◌, ◌≤◌, MatchResult};
 ghost use Rattle.report_run.specs.Messages.{seen};
 ghost use Rattle.report_run.specs.States.{state};
-ghost use Rattle.report_run.specs.Memories.{AreRegionsDone, AreRegionsUndone, IsByGiven, IsNotByGiven, IsBySearch};
+ghost use Rattle.report_run.specs.Memories.{IsNamedDone, IsNamedUndone, AreRegionsDone, AreRegionsUndone};
+ghost use Rattle.report_run.specs.Memories.{IsByGiven, IsNotByGiven, IsBySearch};
 ghost use Rattle.report_run.specs.Memories.{IsNotBySearch, IsMemoryDone, IsMemoryUndone};
 
 use crate::choosing::regions_asked;
@@ -17,6 +18,35 @@ use outside::{Load, Sink};
 use report_entry::Layouts;
 use report_tool::{Known, Plan};
 use std::alloc::Global;
+
+// A region, under the name that its place gives it.
+fn report_named<M: Load, O: Sink, E: Sink, F: Records>(
+    alloc: Global,
+    asked: &Asked,
+    path: &str,
+    base: u64,
+    region: &Region,
+    memory: &mut M,
+    out: &mut O,
+    messages: &mut Messages<E>,
+    records: &mut F,
+) -> Result<(), Failure>
+    ensures done { let before = state (O.given out.old) (O.faults out.old)
+        (seen (E.given messages.old.errors) (E.faults messages.old.errors) messages.old.is_lost)
+        (F.made records.old) in
+        let after = state (O.given out.new) (O.faults out.new)
+        (seen (E.given messages.new.errors) (E.faults messages.new.errors) messages.new.is_lost)
+        (F.made records.new) in
+        MatchResult result
+        (λ _. IsNamedDone asked.now path.now base region.now (M.holds memory.old) before after)
+        (IsNamedUndone asked.now path.now base region.now (M.holds memory.old) (M.faults memory.old)
+        (M.faults memory.new) before after) }
+    ensures same { M.holds memory.new ≡ M.holds memory.old }
+    ensures later { M.faults memory.old ≤ M.faults memory.new }
+{
+    let name = region_name(alloc, path, base, region.place)?;
+    report_region(alloc, asked, &name, region, memory, out, messages, records)
+}
 
 // Regions, one after another. The first that fails ends it.
 fn report_regions<M: Load, O: Sink, E: Sink, F: Records>(
@@ -44,7 +74,7 @@ fn report_regions<M: Load, O: Sink, E: Sink, F: Records>(
     ensures later { M.faults memory.old ≤ M.faults memory.new }
 {
     for i in 0..regions.len() {
-        report_region(alloc, asked, path, base, &regions[i], memory, out, messages, records)?;
+        report_named(alloc, asked, path, base, &regions[i], memory, out, messages, records)?;
     }
     Ok(())
 }

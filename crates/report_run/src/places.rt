@@ -1,9 +1,8 @@
 // Places and regions in a whole memory, as they are told.
-ghost use Rattle.std.specs.Prelude.{◌≡◌, ◌++◌, [], ◌∷◌, string_bytes, IfOk, OnOk};
-ghost use Rattle.std.specs.List.{filter_map};
+ghost use Rattle.std.specs.Prelude.{◌≡◌, ◌++◌, string_bytes, IfOk, OnOk};
 ghost use Rattle.report_entry.specs.Hints.{hexadecimal};
-ghost use Rattle.report_run.specs.Places.{place_text, region_name, places_text, larger_line, finding_line};
-ghost use Rattle.report_run.specs.Places.{finding_lines, region_in, unexplained_line, unseen_line};
+ghost use Rattle.report_run.specs.Places.{place_text, region_name, place_after, places_text, larger_line, finding_line};
+ghost use Rattle.report_run.specs.Places.{finding_lines, region_list, regions_in, unexplained_line, unseen_line};
 
 use found_regions::{Finding, Region};
 use std::alloc::{AllocError, Global};
@@ -46,7 +45,7 @@ fn add_place(
     base: u64,
     region: &Region,
 ) -> Result<(), AllocError>
-    ensures { OnOk result (string_bytes text.new ≡ string_bytes text.old ++ places_text base (region.now ∷ [])) }
+    ensures { OnOk result (string_bytes text.new ≡ string_bytes text.old ++ place_after base region.now) }
 {
     let place = place_text(alloc, base, region.place)?;
     text.push_str(" ")?;
@@ -141,25 +140,26 @@ pub fn finding_lines(
     Ok(text)
 }
 
-fn region_in(finding: &Finding) -> Option<Region>
-    ensures { result ≡ region_in finding.now }
+fn add_region(regions: &mut Vec<Region>, finding: &Finding) -> Result<(), AllocError>
+    ensures { OnOk result (regions.new.items ≡ regions.old.items ++ region_list finding.now) }
 {
     match *finding {
-        Finding::Shown(region) => Some(region),
-        Finding::Unexplained(_) => None,
-        Finding::Unseen(_) => None,
+        Finding::Shown(region) => {
+            regions.push(region)?;
+            Ok(())
+        }
+        Finding::Unexplained(_) => Ok(()),
+        Finding::Unseen(_) => Ok(()),
     }
 }
 
 /// The regions that were found, in order.
 pub fn regions_in(alloc: Global, findings: &[Finding]) -> Result<Vec<Region>, AllocError>
-    ensures { IfOk result (λ regions. regions.items ≡ filter_map region_in findings.now) }
+    ensures { IfOk result (λ regions. regions.items ≡ regions_in findings.now) }
 {
     let mut regions = Vec::new(alloc);
     for finding in findings {
-        if let Some(region) = region_in(finding) {
-            regions.push(region)?;
-        }
+        add_region(&mut regions, finding)?;
     }
     Ok(regions)
 }

@@ -1,8 +1,7 @@
 // The report of a region in a whole memory.
 ghost use Rattle.std.specs.Prelude.{◌≡◌, ◌≤◌, string_bytes, IfOk, IfErr, Some, MatchResult};
 ghost use Rattle.report_tool.specs.Images.{IsReported};
-ghost use Rattle.report_run.specs.declared.failures.Failure.TheVariants.{Memory};
-ghost use Rattle.report_run.specs.Images.{IsStoppedAt};
+ghost use Rattle.report_run.specs.Images.{IsStoppedAt, TellsLayout, IsNotTold};
 ghost use Rattle.report_run.specs.Messages.{seen};
 ghost use Rattle.report_run.specs.States.{state};
 ghost use Rattle.report_run.specs.Regions.{IsHeld, IsUnheld, IsPlaceDone, IsPlaceUndone, AreRegionLines, IsRegionPlan};
@@ -11,7 +10,7 @@ ghost use Rattle.report_run.specs.Regions.{IsRegionTold, IsRegionDone, IsRegionU
 use crate::failures::{Failure, unread_failure};
 use crate::images::{report_by, tell_layout};
 use crate::messages::Messages;
-use crate::places::{larger_line, region_name};
+use crate::places::larger_line;
 use crate::plans::{Asked, dressed};
 use crate::records::{Records, save_asked};
 use found_regions::Region;
@@ -19,7 +18,7 @@ use memory_regions::window;
 use outside::{Bytes, Load, Sink};
 use region_report::Report;
 use report_entry::{Image, taken_hint};
-use report_tool::{Found, Plan};
+use report_tool::{Format, Found, Plan};
 use std::alloc::{AllocError, Global};
 
 // So many bytes of a memory from a place on.
@@ -89,10 +88,9 @@ pub fn report_place<M: Load, O: Sink, F: Records>(
     save_asked(asked.saves, &report, records)
 }
 
-/// What is told of a region that was found: its name, the lines on it, and the plan by which it is read.
+/// What is told of a region that was found: the lines on it, and the plan by which it is read.
 #[derive(Drop)]
 pub struct RegionTold {
-    pub name: String,
     pub lines: String,
     pub plan: Plan,
 }
@@ -118,24 +116,40 @@ fn region_plan(alloc: Global, asked: &Asked, found: &Found) -> Result<Plan, Allo
 fn region_told(
     alloc: Global,
     asked: &Asked,
-    path: &str,
-    base: u64,
+    name: &str,
     region: &Region,
 ) -> Result<RegionTold, AllocError>
-    ensures { IfOk result (IsRegionTold asked.now path.now base region.now) }
+    ensures { IfOk result (IsRegionTold asked.now name.now region.now) }
 {
     let plan = region_plan(alloc, asked, &region.found)?;
-    let name = region_name(alloc, path, base, region.place)?;
-    let lines = region_lines(alloc, &name, region)?;
-    Ok(RegionTold { name, lines, plan })
+    let lines = region_lines(alloc, name, region)?;
+    Ok(RegionTold { lines, plan })
 }
 
-/// A region that was found: the lines on it, its report, and its records saved, if that is asked for.
+fn tell_region<O: Sink, E: Sink>(
+    format: Format,
+    told: &RegionTold,
+    out: &mut O,
+    messages: &mut Messages<E>,
+) -> Result<(), Failure>
+    ensures { MatchResult result
+        (λ _. TellsLayout format (string_bytes told.now.lines) (O.given out.old) (O.given out.new) (O.faults out.old)
+        (O.faults out.new)
+        (seen (E.given messages.old.errors) (E.faults messages.old.errors) messages.old.is_lost)
+        (seen (E.given messages.new.errors) (E.faults messages.new.errors) messages.new.is_lost))
+        (IsNotTold format (string_bytes told.now.lines) (O.given out.old) (O.given out.new) (O.faults out.old)
+        (O.faults out.new)
+        (seen (E.given messages.old.errors) (E.faults messages.old.errors) messages.old.is_lost)
+        (seen (E.given messages.new.errors) (E.faults messages.new.errors) messages.new.is_lost)) }
+{
+    tell_layout(format, &told.lines, out, messages)
+}
+
+/// A region that was found, under a name: the lines on it, its report, and its records saved, if that is asked for.
 pub fn report_region<M: Load, O: Sink, E: Sink, F: Records>(
     alloc: Global,
     asked: &Asked,
-    path: &str,
-    base: u64,
+    name: &str,
     region: &Region,
     memory: &mut M,
     out: &mut O,
@@ -149,13 +163,13 @@ pub fn report_region<M: Load, O: Sink, E: Sink, F: Records>(
         (seen (E.given messages.new.errors) (E.faults messages.new.errors) messages.new.is_lost)
         (F.made records.new) in
         MatchResult result
-        (λ _. IsRegionDone asked.now path.now base region.now (M.holds memory.old) before after)
-        (IsRegionUndone asked.now path.now base region.now (M.holds memory.old) (M.faults memory.old)
-        (M.faults memory.new) before after) }
+        (λ _. IsRegionDone asked.now name.now region.now (M.holds memory.old) before after)
+        (IsRegionUndone asked.now name.now region.now (M.holds memory.old) (M.faults memory.old) (M.faults memory.new)
+        before after) }
     ensures same { M.holds memory.new ≡ M.holds memory.old }
     ensures later { M.faults memory.old ≤ M.faults memory.new }
 {
-    let told = region_told(alloc, asked, path, base, region)?;
-    tell_layout(asked.format, &told.lines, out, messages)?;
-    report_place(alloc, asked, &told.plan, &told.name, region.place, memory, out, records)
+    let told = region_told(alloc, asked, name, region)?;
+    tell_region(asked.format, &told, out, messages)?;
+    report_place(alloc, asked, &told.plan, name, region.place, memory, out, records)
 }
