@@ -133,7 +133,8 @@ fn report_sought<M: Load, W: Watch, O: Sink, E: Sink, F: Records>(
     ensures later { M.faults memory.old ≤ M.faults memory.new }
 {
     let regions = regions_asked(alloc, asked, known, path, whole, memory, watch, messages)?;
-    report_regions(alloc, asked, path, whole.base, &regions, memory, out, messages, records)
+    report_regions(alloc, asked, path, whole.base, &regions, memory, out, messages, records)?;
+    Ok(())
 }
 
 /// The regions of a whole memory: the one at the place that is named, or all that are found, and their records saved, if
