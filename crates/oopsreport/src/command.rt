@@ -19,9 +19,23 @@ fn with_layout<'a>(alloc: Global, command: Command<'a>) -> Result<Command<'a>, A
         .long("region")
         .action(ArgAction::SetTrue)
         .help("Take each image as a region, also where it is a text log");
-    with_tree(alloc, with_kernel(alloc, command.arg(param)?)?)?
-        .arg(as_given)?
-        .arg(region)
+    let command = with_tree(alloc, with_kernel(alloc, command.arg(param)?)?)?;
+    with_log(alloc, command.arg(as_given)?.arg(region)?)
+}
+
+// That the images are text logs.
+fn with_log<'a>(alloc: Global, command: Command<'a>) -> Result<Command<'a>, AllocError> {
+    let log = Arg::new(alloc, "log")
+        .long("log")
+        .action(ArgAction::SetTrue)
+        .conflicts_with("region")?
+        .conflicts_with("param")?
+        .conflicts_with("cmdline")?
+        .conflicts_with("cmdline-file")?
+        .conflicts_with("dtb")?
+        .conflicts_with("memory")?
+        .help("Take each image as a text log, also where bytes of it are zero");
+    command.arg(log)
 }
 
 // The kernel's own words and version.

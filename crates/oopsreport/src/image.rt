@@ -5,7 +5,7 @@ ghost use Rattle.report_run.specs.Runs.{IsUnopened};
 use crate::unpacking::{is_packed, unpacked};
 use anyhow::{Result, bail};
 use outside::{Failed, FileLoad, Load};
-use report_run::{Failure, Images};
+use report_run::{Failure, Images, Wanted};
 use std::alloc::Global;
 use std::fs;
 use std::io::{self, ErrorKind, Read};
@@ -129,8 +129,16 @@ fn open<R: Runtime, S: Read>(
     Ok(Kind::Front(front_of(alloc, &mut device, most as usize)?))
 }
 
-/// Why an image could not be opened, or a region not found.
-pub fn unopened(alloc: Global, error: &anyhow::Error) -> Failure
+// The file at a path, as it stands.
+fn open_whole<R: Runtime>(rt: &R, alloc: Global, path: &str) -> Result<Kind<R>> {
+    if !fs::metadata(rt, path)?.is_file() {
+        bail!("it is no file");
+    }
+    Ok(Kind::File(FileLoad::new(rt, alloc, path)?))
+}
+
+// Why a file could not be opened.
+fn unopened(alloc: Global, error: &anyhow::Error) -> Failure
     ensures { IsUnopened result }
 {
     match format!(in alloc; "{error:#}") {
@@ -139,8 +147,8 @@ pub fn unopened(alloc: Global, error: &anyhow::Error) -> Failure
     }
 }
 
-/// The images of the system, by their paths; `-` is standard input. Of what is no regular file, such as a device or a
-/// pipe, no more is read than is wanted.
+/// The files of the system, by their paths; `-` is standard input. Of what is no regular file, such as a device or a
+/// pipe, no more is read than is wanted, and it is no whole memory.
 #[derive(Drop)]
 pub struct System<R: Runtime, S> {
     rt: R,
@@ -159,8 +167,12 @@ impl<R: Runtime, S: Read> Images for System<R, S> {
 
     ghost content = { λ _ _ _. None };
 
-    fn open(&mut self, path: &str, most: u32) -> Result<Image<R>, Failure> {
-        match open(&self.rt, self.alloc, &mut self.input, path, most) {
+    fn open(&mut self, path: &str, wanted: Wanted) -> Result<Image<R>, Failure> {
+        let opened = match wanted {
+            Wanted::Front(most) => open(&self.rt, self.alloc, &mut self.input, path, most),
+            Wanted::Whole => open_whole(&self.rt, self.alloc, path),
+        };
+        match opened {
             Ok(kind) => Ok(Image { kind, faults: 0 }),
             Err(error) => Err(unopened(self.alloc, &error)),
         }

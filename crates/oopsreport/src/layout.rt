@@ -7,8 +7,8 @@ use grammar_spec::ParamFault;
 use kernel_line::{KernelLine, LineFault};
 use ramoops_layout::given;
 use report_entry::{Layouts, LayoutsFault, NoLayouts, Place, Said, layouts_by};
-use report_run::dressed;
-use report_tool::{Format, Found, Plan, add_order, add_tag, ftrace_tag, zone_order};
+use report_run::{Logs, WholeMemory, dressed};
+use report_tool::{Format, add_order, add_tag, ftrace_tag, zone_order};
 use std::alloc::{AllocError, Global};
 use std::io::ErrorKind;
 use std::rt::Runtime;
@@ -227,13 +227,11 @@ fn tell_nodes<R: Runtime>(
     Ok(())
 }
 
-/// A whole memory: the address of its first byte, or 0, and the place of the region in it, if one is named.
+/// A whole memory, and the size of the region in it, if a command line reserves it by name.
 #[derive(Clone, Copy)]
-pub struct Memory {
-    pub base: u64,
-    pub place: Option<u64>,
-    /// The region's size, if a command line reserves it by name.
-    pub reserved: Option<u64>,
+struct Memory {
+    whole: WholeMemory,
+    reserved: Option<u64>,
 }
 
 /// Which of the two outputs is a terminal.
@@ -248,18 +246,6 @@ pub struct Terminal {
 pub struct Asked {
     pub images: report_run::Asked,
     pub is_coloured: bool,
-    /// If the images are whole memories.
-    pub memory: Option<Memory>,
-}
-
-impl Asked {
-    /// The plan of a layout that was found.
-    pub fn plan_of(&self, alloc: Global, found: &Found) -> Result<Plan, AllocError> {
-        match Plan::of_candidate(alloc, &found.candidate) {
-            Ok(plan) => dressed(alloc, plan, self.images.lines, &self.images.map),
-            Err(_) => Err(AllocError),
-        }
-    }
 }
 
 /// How a report is written.
@@ -341,8 +327,7 @@ fn memory_by<R: Runtime>(
     let base = first_address(first);
     match place_asked(first, at, said) {
         Ok(place) => Ok(Memory {
-            base,
-            place,
+            whole: WholeMemory { base, place },
             reserved: line.reserved_size(),
         }),
         Err(address) => {
@@ -352,18 +337,19 @@ fn memory_by<R: Runtime>(
     }
 }
 
+fn place_in(whole: WholeMemory) -> Place {
+    match whole.place {
+        Some(place) => Place::At(place),
+        None => Place::Anywhere,
+    }
+}
+
 // What the words say of the place of the region.
 fn said_by(matches: &ArgMatches<'_>, memory: Option<Memory>) -> Said {
     Said {
         is_as_given: matches.get_flag("mem-as-given"),
         place: match memory {
-            Some(
-                Memory {
-                    place: Some(place),
-                    ..
-                },
-            ) => Place::At(place),
-            Some(Memory { place: None, .. }) => Place::Anywhere,
+            Some(memory) => place_in(memory.whole),
             None => Place::Front,
         },
         reserved: match memory {
@@ -397,6 +383,17 @@ fn layouts_of<R: Runtime>(
     }
 }
 
+// Which images are text logs: all, if the words say so, and those that are a text, if nothing is said of a layout.
+fn logs_by(matches: &ArgMatches<'_>, is_silent: bool) -> Logs {
+    if matches.get_flag("log") {
+        Logs::All
+    } else if is_silent && !matches.get_flag("region") {
+        Logs::Texts
+    } else {
+        Logs::Never
+    }
+}
+
 /// How the images are to be read.
 pub fn asked_by<R: Runtime>(
     rt: &R,
@@ -421,17 +418,19 @@ pub fn asked_by<R: Runtime>(
         sought => sought,
     };
     let format = format(matches);
+    let logs = logs_by(matches, words.is_empty() && memory.is_none());
     Ok(Asked {
         images: report_run::Asked {
             layouts,
             format,
             lines,
             map,
-            logs: words.is_empty() && memory.is_none() && !matches.get_flag("region"),
+            logs,
+            storages: matches!(logs, Logs::Texts),
+            memory: memory.map(|memory| memory.whole),
             saves: matches.get_str("save").is_some(),
             counts: terminal.is_errors,
         },
         is_coloured: format == Format::Text && is_coloured(rt, matches, terminal.is_output),
-        memory,
     })
 }

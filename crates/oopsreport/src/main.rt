@@ -8,26 +8,23 @@ mod layout;
 mod memory;
 mod unpacking;
 
-use anyhow::{Result, anyhow, bail};
+use anyhow::Result;
 use clap::ArgMatches;
 use clap::error::ErrorKind;
 use command::command;
 use folder::Named;
-use found_regions::Region;
-use image::{System, unopened};
-use layout::{Asked, Memory, NoPlan, Terminal, asked_by, format};
-use memory::{Progress, named, part_at, region, regions};
-use outside::{FileLoad, Load, Sink, WriterSink};
-use region_report::Report;
+use image::System;
+use layout::{Asked, NoPlan, Terminal, asked_by, format};
+use memory::Progress;
+use outside::{Sink, WriterSink};
 use report_colours::ColourSink;
-use report_entry::{Layouts, taken_hint};
-use report_run::{Failure, Messages, Records, report_by, status_of, tell_layout};
-use report_tool::{Format, Known, Plan};
+use report_run::{Messages, status_of};
+use report_tool::Format;
 use std::alloc::{AllocError, Global};
 use std::io::{IsTerminal, Read};
 use std::process::ExitCode;
 use std::rt::Runtime;
-use std::{env, fs, io};
+use std::{env, io};
 
 /// The status where an image was not reported or a record was not saved.
 const NOT_DONE: u8 = 1;
@@ -35,204 +32,9 @@ const NOT_DONE: u8 = 1;
 /// The status where the words of the command line are wrong.
 const WRONG_WORDS: u8 = 2;
 
-// What was done, or why an image could not be opened.
-fn opened<T>(alloc: Global, done: Result<T>) -> Result<T, Failure> {
-    match done {
-        Ok(value) => Ok(value),
-        Err(error) => Err(unopened(alloc, &error)),
-    }
-}
-
-// The report by a plan, in colours where they are asked for.
-fn report_plan<R: Runtime, M: Load>(
-    rt: &R,
-    alloc: Global,
-    asked: &Asked,
-    plan: &Plan,
-    path: &str,
-    image: &mut M,
-) -> Result<Report, Failure> {
-    let mut out = WriterSink::new(io::writer(rt));
-    if asked.is_coloured {
-        let mut out = ColourSink::new(out);
-        report_by(alloc, plan, asked.images.format, path, image, &mut out)
-    } else {
-        report_by(alloc, plan, asked.images.format, path, image, &mut out)
-    }
-}
-
-// The name of the region at a place.
-fn region_name(alloc: Global, path: &str, base: u64, place: u64) -> Result<String, AllocError> {
-    let place = named(alloc, base, place)?;
-    format!(in alloc; "{path}@{place}")
-}
-
-// The report of the region at a place of a file, and its records saved.
-fn report_region<R: Runtime>(
-    rt: &R,
-    alloc: Global,
-    asked: &Asked,
-    plan: &Plan,
-    records: &mut Named<R>,
-    path: &str,
-    memory: Memory,
-    place: u64,
-) -> Result<(), Failure> {
-    let name = region_name(alloc, path, memory.base, place)?;
-    let mut part = opened(alloc, part_at(rt, alloc, path, place, plan.mem()))?;
-    let report = report_plan(rt, alloc, asked, plan, &name, &mut part)?;
-    records.save(&report)
-}
-
-// The lines on what was found of a region.
-fn region_lines(
-    alloc: Global,
-    path: &str,
-    base: u64,
-    region: &Region,
-) -> Result<String, AllocError> {
-    let name = region_name(alloc, path, base, region.place)?;
-    let mut lines = taken_hint(alloc, &name, region.found.candidate.mem, &region.found)?;
-    if let Some(size) = region.larger {
-        lines.push_str(&format!(in alloc; "a region of {size} bytes explains as much\n")?)?;
-    }
-    Ok(lines)
-}
-
-// The regions of a memory.
-fn regions_of<R: Runtime, E: Sink>(
-    rt: &R,
-    messages: &mut Messages<E>,
-    alloc: Global,
-    known: &Known,
-    path: &str,
-    memory: Memory,
-    shows_progress: bool,
-) -> Result<Vec<Region>> {
-    let mut file = FileLoad::new(rt, alloc, path)?;
-    if let Some(place) = memory.place {
-        return match region(alloc, &mut file, known, place)? {
-            Some(region) => Ok(vec![in alloc; region]?),
-            None => bail!("no layout explains what stands at that place; give it by --param"),
-        };
-    }
-    let mut progress = Progress::new(rt.clone()?, shows_progress);
-    let regions = regions(
-        messages,
-        alloc,
-        &mut file,
-        known,
-        path,
-        memory.base,
-        &mut progress,
-    )?;
-    if regions.is_empty() {
-        bail!("no region was found");
-    }
-    Ok(regions)
-}
-
-// The places of regions, where one must be chosen.
-fn choose_one(alloc: Global, base: u64, regions: &[Region]) -> Result<anyhow::Error> {
-    let mut places = String::new(alloc);
-    for region in regions {
-        places.push_str(" ")?;
-        places.push_str(&named(alloc, base, region.place)?)?;
-    }
-    Ok(anyhow!("several regions; choose one by --at:{places}"))
-}
-
-// The regions of a memory that are reported.
-fn regions_asked<R: Runtime, E: Sink>(
-    rt: &R,
-    messages: &mut Messages<E>,
-    alloc: Global,
-    asked: &Asked,
-    known: &Known,
-    memory: Memory,
-    path: &str,
-    shows_progress: bool,
-) -> Result<Vec<Region>> {
-    let regions = regions_of(rt, messages, alloc, known, path, memory, shows_progress)?;
-    if regions.len() > 1 && (asked.images.format == Format::Html || asked.images.saves) {
-        return Err(choose_one(alloc, memory.base, &regions)?);
-    }
-    Ok(regions)
-}
-
-// Whether the image at a path is a file.
-fn must_be_file<R: Runtime>(rt: &R, path: &str) -> Result<()> {
-    if !fs::metadata(rt, path)?.is_file() {
-        bail!("it is no file");
-    }
-    Ok(())
-}
-
-// A whole memory: the report of each region, and the records of one saved.
-fn one_memory<R: Runtime, E: Sink>(
-    rt: &R,
-    messages: &mut Messages<E>,
-    alloc: Global,
-    asked: &Asked,
-    memory: Memory,
-    records: &mut Named<R>,
-    path: &str,
-    shows_progress: bool,
-) -> Result<(), Failure> {
-    opened(alloc, must_be_file(rt, path))?;
-    let known = match (&asked.images.layouts, memory.place) {
-        (Layouts::Given(plan), Some(place)) => {
-            return report_region(rt, alloc, asked, plan, records, path, memory, place);
-        }
-        (Layouts::Given(_), None) => return Err(unopened(alloc, &anyhow!("no place is named"))),
-        (Layouts::Sought(known), _) => known,
-    };
-    let regions = regions_asked(
-        rt,
-        messages,
-        alloc,
-        asked,
-        known,
-        memory,
-        path,
-        shows_progress,
-    );
-    for region in &opened(alloc, regions)? {
-        let lines = region_lines(alloc, path, memory.base, region)?;
-        let mut out = WriterSink::new(io::writer(rt));
-        tell_layout(asked.images.format, &lines, &mut out, messages)?;
-        let plan = asked.plan_of(alloc, &region.found)?;
-        report_region(rt, alloc, asked, &plan, records, path, memory, region.place)?;
-    }
-    Ok(())
-}
-
-// Whole memories, one after another, and the status. A line that standard error does not take ends nothing.
-fn all_memories<R: Runtime, E: Sink>(
-    rt: &R,
-    messages: &mut Messages<E>,
-    alloc: Global,
-    asked: &Asked,
-    memory: Memory,
-    records: &mut Named<R>,
-    paths: &[String],
-) -> u8 {
-    let counts = asked.images.counts && paths.len() > 1;
-    let mut status = 0;
-    for (i, path) in paths.iter().enumerate() {
-        messages.tell_count(counts, i, paths.len());
-        let shows = asked.images.counts;
-        if let Err(failure) = one_memory(rt, messages, alloc, asked, memory, records, path, shows) {
-            status = NOT_DONE;
-            messages.tell_failure(path, &failure);
-        }
-    }
-    messages.tell_end(counts, paths.len());
-    if messages.is_lost { NOT_DONE } else { status }
-}
-
-// All images, one after another, and the status.
+// All files, one after another, and the status.
 fn all_paths<R: Runtime, S: Read, O: Sink, E: Sink>(
+    rt: &R,
     messages: &mut Messages<E>,
     alloc: Global,
     images: &mut System<R, S>,
@@ -240,15 +42,16 @@ fn all_paths<R: Runtime, S: Read, O: Sink, E: Sink>(
     records: &mut Named<R>,
     out: &mut O,
     paths: &[String],
-) -> u8 {
+) -> Result<u8> {
     let all = paths.len();
-    let failed = report_run::run(alloc, asked, paths, images, out, messages, records);
+    let mut watch = Progress::new(rt.clone()?, asked.counts);
+    let failed = report_run::run(alloc, asked, paths, images, &mut watch, out, messages, records);
     messages.tell_end(asked.counts && all > 1, all);
-    status_of(failed, messages.is_lost)
+    Ok(status_of(failed, messages.is_lost))
 }
 
-// Does what is asked of the images.
-fn all_images<R: Runtime, S: Read, E: Sink>(
+// Does what is asked of the files.
+fn all_files<R: Runtime, S: Read, E: Sink>(
     rt: &R,
     messages: &mut Messages<E>,
     alloc: Global,
@@ -256,14 +59,12 @@ fn all_images<R: Runtime, S: Read, E: Sink>(
     asked: &Asked,
     records: &mut Named<R>,
     paths: &[String],
-) -> u8 {
-    if let Some(memory) = asked.memory {
-        return all_memories(rt, messages, alloc, asked, memory, records, paths);
-    }
+) -> Result<u8> {
     let mut out = WriterSink::new(io::writer(rt));
     if asked.is_coloured {
         let mut out = ColourSink::new(out);
         all_paths(
+            rt,
             messages,
             alloc,
             images,
@@ -274,6 +75,7 @@ fn all_images<R: Runtime, S: Read, E: Sink>(
         )
     } else {
         all_paths(
+            rt,
             messages,
             alloc,
             images,
@@ -329,7 +131,7 @@ fn run<R: Runtime, S: Read + Drop, E: Sink>(
         Ok(asked) => {
             let mut images = System::new(rt.clone()?, alloc, input);
             let mut records = Named::new(rt.clone()?, alloc, folder_named(alloc, &matches)?);
-            Ok(all_images(
+            all_files(
                 rt,
                 messages,
                 alloc,
@@ -337,7 +139,7 @@ fn run<R: Runtime, S: Read + Drop, E: Sink>(
                 &asked,
                 &mut records,
                 &paths,
-            ))
+            )
         }
         Err(NoPlan::Memory) => Err(AllocError.into()),
         Err(NoPlan::Words(e)) => {

@@ -1,7 +1,11 @@
--- Messages on the best layout, reports behind the lines on a layout, and images one after another. `tell_failure`,
--- `sought_report`, `report_path` and `run` cite them.
+-- Messages on the best layout, reports behind the lines on a layout, files and regions one after another, regions under
+-- their names, and those that are found. `tell_failure`, `sought_report`, `report_path`, `run`, `report_regions`,
+-- `report_named`, `report_given` and `regions_found` cite them.
 mod BestLines
+mod FoundRegions
 mod LogEnds
+mod NamedRegions
+mod RegionSteps
 mod ReportEnds
 mod RunSteps
 mod Steps

@@ -1,8 +1,9 @@
 -- An image that may be a text log: what a look at it tells, and how its report ends. For `held_log` and
 -- `unknown_report`.
 use Rattle.std.proofs.Common.{◌≡◌, ◌≤◌, ◌∙◌, ℕ, Bool, true, false, List, Option, Some, None, take, refl, sym, subst}
-use Rattle.std.proofs.Common.{inl, inr}
-use Rattle.std.specs.Prelude.{Result, Ok, Err, MatchResult, IfSome}
+use Rattle.std.proofs.Common.{inl, inr, drop, length, ◌-◌, arith, ap, nat_lt}
+use Rattle.std.proofs.lemmas.List.{take_all, length-drop}
+use Rattle.std.specs.Prelude.{Result, Ok, Err, MatchResult, IfSome, IsTrue, ◌↔◌}
 use Rattle.command_spec.specs.declared.Stop.{Stop}
 use Rattle.command_spec.specs.declared.Stop.TheVariants.{Memory, Usage, Param, Layout, NoSharedZone, Short, ScriptFault}
 use Rattle.command_spec.specs.declared.Stop.TheVariants.{ImageFault, SinkFault, TooLong, BadLine, Refused}
@@ -14,30 +15,45 @@ use Rattle.layout_spec.specs.declared.Known.{Known}
 use Rattle.region_report.specs.Reports.{ReportHeld}
 use Rattle.report_tool.specs.Images.{IsReported}
 use Rattle.report_run.specs.declared.plans.Asked.{Asked}
+use Rattle.report_run.specs.declared.plans.Logs.TheVariants.{Texts}
 use Rattle.report_run.specs.declared.failures.Failure.{Failure}
 use Rattle.report_run.specs.Failures.{stop_failure}
 use Rattle.report_run.specs.Messages.{Seen}
 use Rattle.report_run.specs.Plans.{dressed, map_of}
 use Rattle.report_run.specs.Storages.{IsUnloggedReport, IsNoUnloggedReport}
-use Rattle.report_run.specs.Logs.{most_log, IsNoLog, IsHeldLog, IsUnlooked, IsLogUnreported}
+use Rattle.report_run.specs.Logs.{front_len, most_log, text_in, log_text, IsNoLog, IsSeenLog, IsHeldLog, IsUnlooked, IsLogUnreported}
 use Rattle.report_run.specs.Reports.{IsUnknownReport, IsNoUnknownReport}
 
 -- ---- the look
 
-pub not_looked : (holds : Option (List ℕ)) (takes : Bool) → takes ≡ false → IsNoLog takes holds
-not_looked None takes off = tt
-not_looked (Some image) takes off = λ e is. (let n : ◌≡◌ {A = Bool} false true = sym off ∙ e in absurd (cc))
+pub text_seen : (is : Bool) (holds : Option (List ℕ)) (text : List ℕ)
+    → IfSome holds (λ image. text ≡ take front_len image) → IsTrue is ↔ IsTextLog text → IsSeenLog is Texts holds
+text_seen true None text same is_text = tt
+text_seen false None text same is_text = tt
+text_seen true (Some image) text same is_text = subst IsTextLog same (is_text.0 refl)
+text_seen false (Some image) text same is_text =
+    λ is. (let n : ◌≡◌ {A = Bool} false true = is_text.1 (subst IsTextLog (sym same) is) in absurd (cc))
 
-pub no_log : (takes : Bool) (holds : Option (List ℕ)) (text : List ℕ)
-    → IfSome holds (λ image. text ≡ take most_log image) → ¬ (IsTextLog text) → IsNoLog takes holds
-no_log takes None text same not = tt
-no_log takes (Some image) text same not = λ e is. not (subst IsTextLog (sym same) is)
+-- the last bytes are all that the window asks for
+pub tail : (image : List ℕ) → take most_log (drop (length image - most_log) image) ≡ drop (length image - most_log) image
+tail image =
+    take_all most_log (drop (length image - most_log) image)
+    (omega (arith, length-drop (length image - most_log) image))
 
-pub held : (takes : Bool) (holds : Option (List ℕ)) (text : List ℕ) (l : LogImage) → takes ≡ true
-    → IfSome holds (λ image. text ≡ take most_log image) → IsTextLog text → IsLogImage text l → IsHeldLog takes holds l
-held takes None text l t same is image = record { is_log = (t, tt); image = tt }
-held takes (Some bytes) text l t same is image =
-    record { is_log = (t, subst IsTextLog same is); image = subst (λ (x : List ℕ). IsLogImage x l) same image }
+pub log_held : (holds same : Option (List ℕ)) (size at : ℕ) (bytes slice text : List ℕ) (l : LogImage) → same ≡ holds
+    → at ≡ size - most_log → slice ≡ bytes → text ≡ text_in (nat_lt most_log size) slice
+    → IfSome holds (λ image. size ≡ length image)
+    → IfSome same (λ image. bytes ≡ take most_log (drop at image))
+    → IsLogImage text l → IfSome holds (λ image. IsLogImage (log_text image) l)
+log_held None same size at bytes slice text l e at_is slice_is text_is sized read is = tt
+log_held (Some image) same size at bytes slice text l e at_is slice_is text_is sized read is =
+    let here : bytes ≡ take most_log (drop at image) =
+      subst (λ (o : Option (List ℕ)). IfSome o (λ image. bytes ≡ take most_log (drop at image))) e read in
+    let of_size : bytes ≡ take most_log (drop (length image - most_log) image) =
+      subst (λ (n : ℕ). bytes ≡ take most_log (drop n image)) (at_is ∙ ap (λ n. n - most_log) sized) here in
+    subst (λ (t : List ℕ). IsLogImage t l)
+    (text_is ∙ ap (λ n. text_in (nat_lt most_log n) slice) sized
+    ∙ ap (text_in (nat_lt most_log (length image))) (slice_is ∙ of_size ∙ tail image)) is
 
 pub unlooked : (s : Stop) (before now : ℕ) → FrontStop s before now → IsUnlooked before now (stop_failure s)
 unlooked Memory before now h = tt

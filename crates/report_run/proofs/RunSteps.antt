@@ -5,9 +5,11 @@ use Rattle.std.proofs.lemmas.List.{drop_all}
 use Rattle.std.specs.declared.string.String.{String}
 use Rattle.std.specs.declared.alloc.Global.{Global}
 use Rattle.report_run.specs.declared.plans.Asked.{Asked}
-use Rattle.report_run.specs.Runs.{State, most_of, IsStep, AreSteps}
+use Rattle.report_run.specs.declared.plans.Wanted.{Wanted}
+use Rattle.report_run.specs.States.{State}
+use Rattle.report_run.specs.Runs.{wanted, IsStep, AreSteps}
 
-module _ (asked : Asked) (content : List ℕ → ℕ → Option (List ℕ)) (paths : List (String Global)) (start : State) where
+module _ (asked : Asked) (content : List ℕ → Wanted → Option (List ℕ)) (paths : List (String Global)) (start : State) where
   -- what the images from a place on do, those before have led to
   abbrev pub Continues : ℕ → State → Bool → Type 0
   Continues i s failed =
@@ -19,7 +21,7 @@ module _ (asked : Asked) (content : List ℕ → ℕ → Option (List ℕ)) (pat
 
   next : (i : ℕ) (path : String Global) (s m : State) (was failed : Bool) → i < length paths
       → path ≡ get_or paths i path
-      → IsStep asked i (length paths) (string_bytes path) (content (string_bytes path) (most_of asked.layouts)) s m was
+      → IsStep asked i (length paths) (string_bytes path) (content (string_bytes path) (wanted asked.memory asked.layouts)) s m was
       failed → Continues i s was → Continues (i + 1) m failed
   unfolding AreSteps
   next i path s m was failed inside is_path step so_far =
@@ -34,16 +36,16 @@ module _ (asked : Asked) (content : List ℕ → ℕ → Option (List ℕ)) (pat
           → AreSteps asked content (length paths) i (path ∷ drop (i + 1) paths) s was after now
       joined after now steps = (m, failed, step, steps)
 
-  pub one_run : (i : ℕ) (path : String Global) (text : List ℕ) (held : List ℕ → ℕ → Option (List ℕ)) (s m : State)
+  pub one_run : (i : ℕ) (path : String Global) (text : List ℕ) (held : List ℕ → Wanted → Option (List ℕ)) (s m : State)
       (was failed : Bool) → i < length paths → path ≡ get_or paths i path → text ≡ string_bytes path → held ≡ content
-      → IsStep asked i (length paths) text (held text (most_of asked.layouts)) s m was failed
+      → IsStep asked i (length paths) text (held text (wanted asked.memory asked.layouts)) s m was failed
       → Continues i s was → Continues (i + 1) m failed
   one_run i path text held s m was failed inside is_path is_text same step so_far =
       next i path s m was failed inside is_path
-      (subst (λ (t : List ℕ). IsStep asked i (length paths) t (content t (most_of asked.layouts)) s m was failed)
+      (subst (λ (t : List ℕ). IsStep asked i (length paths) t (content t (wanted asked.memory asked.layouts)) s m was failed)
       is_text
-      (subst (λ (f : List ℕ → ℕ → Option (List ℕ)). IsStep asked i (length paths) text
-      (f text (most_of asked.layouts)) s m was failed) same step))
+      (subst (λ (f : List ℕ → Wanted → Option (List ℕ)). IsStep asked i (length paths) text
+      (f text (wanted asked.memory asked.layouts)) s m was failed) same step))
       so_far
 
   pub all_run : (i : ℕ) (s : State) (failed : Bool) → length paths ≤ i → Continues i s failed

@@ -3,7 +3,8 @@ use Rattle.std.proofs.Common.{◌≡◌, ℕ, List, Option, Bool, subst}
 use Rattle.std.specs.Prelude.{not, ◌||◌}
 use Rattle.report_run.specs.declared.plans.Asked.{Asked}
 use Rattle.report_run.specs.Messages.{Seen, IsCounted}
-use Rattle.report_run.specs.Runs.{State, is_counted, IsPath, IsStep}
+use Rattle.report_run.specs.States.{State}
+use Rattle.report_run.specs.Runs.{is_counted, IsPath, IsStep}
 
 pub step : (asked : Asked) (i all : ℕ) (path : List ℕ) (holds : Option (List ℕ)) (a b : State) (between : Seen)
     (was now done is_shown : Bool) → is_shown ≡ is_counted asked all

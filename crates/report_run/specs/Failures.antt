@@ -1,6 +1,8 @@
--- Why a report by a plan was not made
+-- Why a report by a plan was not made, or a whole memory not read
 use Rattle.command_spec.specs.declared.Stop.{Stop}
 use Rattle.command_spec.specs.declared.Stop.TheVariants.{Short as TooShort, ImageFault, SinkFault}
+use Rattle.memory_regions.specs.declared.pages.Unread.{Unread as Fault}
+use Rattle.memory_regions.specs.declared.pages.Unread.TheVariants.{Memory as NoMemory, Fault as ReadFault}
 use Rattle.report_run.specs.declared.failures.Failure.{Failure}
 use Rattle.report_run.specs.declared.failures.Failure.TheVariants.{Memory, Unread, Unwritten, Short}
 
@@ -9,3 +11,7 @@ stop_failure (TooShort has needed) = Short has needed
 stop_failure ImageFault = Unread
 stop_failure SinkFault = Unwritten
 stop_failure other = Memory
+
+abbrev pub unread_failure : Fault → Failure
+unread_failure NoMemory = Memory
+unread_failure ReadFault = Unread

@@ -53,6 +53,13 @@ pub record IsStopped (format : Format) (path : List ℕ) (plan : Plan) (holds : 
   pub cause : IsNotReported format path plan stop holds read_before read_now given now put_before put_now
   pub why_is : why ≡ stop_failure stop
 
+-- the same, of bytes in memory
+pub record IsStoppedAt (format : Format) (path : List ℕ) (plan : Plan) (holds given now : Option (List ℕ))
+    (put_before put_now : ℕ) (why : Failure) : Type 0 where
+  pub read_before : ℕ
+  pub read_now : ℕ
+  pub cause : IsStopped format path plan holds read_before read_now given now put_before put_now why
+
 -- ---- an image whose layout is looked for
 
 pub record IsSoughtReport (asked : Asked) (known : Known) (path : List ℕ) (holds given now : Option (List ℕ))

@@ -5,4 +5,10 @@ pub mod Images
 pub mod Logs
 pub mod Storages
 pub mod Reports
+pub mod Places
+pub mod Saving
+pub mod States
+pub mod Choice
+pub mod Regions
+pub mod Memories
 pub mod Runs

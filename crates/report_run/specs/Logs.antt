@@ -1,5 +1,7 @@
 -- An image that is a text log: the report of the region that holds its last boot
-use Rattle.std.specs.Prelude.{◌≡◌, ◌⊎◌, ◌≤◌, ⊤, ℕ, Bool, true, List, take, Option, Some, None, IfSome}
+use Rattle.std.specs.Prelude.{◌≡◌, ◌⊎◌, ⊤, ℕ, ◌+◌, ◌-◌, ◌^◌, ◌==◌, nat_lt, Bool, true, false, not, if◌then◌else◌}
+use Rattle.std.specs.Prelude.{List, length, take, drop, Option, Some, None, IfSome}
+use Rattle.std.specs.List.{prefix_len}
 use Rattle.outside.specs.Outside.{Rose}
 use Rattle.text_log_spec.specs.Boots.{IsTextLog}
 use Rattle.log_image.specs.declared.LogImage.{LogImage}
@@ -7,32 +9,62 @@ use Rattle.log_image.specs.Images.{IsLogImage}
 use Rattle.region_report.specs.Reports.{ReportHeld}
 use Rattle.report_tool.specs.Images.{IsReported}
 use Rattle.report_run.specs.declared.plans.Asked.{Asked}
+use Rattle.report_run.specs.declared.plans.Logs.{Logs}
+use Rattle.report_run.specs.declared.plans.Logs.TheVariants.{Never, Texts, All}
 use Rattle.report_run.specs.declared.failures.Failure.{Failure}
 use Rattle.report_run.specs.declared.failures.Failure.TheVariants.{Memory, Unread}
 use Rattle.report_run.specs.Images.{IsStopped}
 use Rattle.report_run.specs.Messages.{Seen}
 use Rattle.report_run.specs.Plans.{dressed, map_of}
 
--- so much of a log is read
+-- so many bytes tell whether an image is a text
+abbrev pub front_len : ℕ
+front_len = 2 ^ 16
+
+-- so many bytes of a log are read
 abbrev pub most_log : ℕ
-most_log = 268_435_456
+most_log = 2 ^ 28
 
--- whether a log is looked for, and the image is one
-abbrev pub IsLog : Bool → Option (List ℕ) → Type 0
-IsLog takes holds = (takes ≡ true) × IfSome holds (λ image. IsTextLog (take most_log image))
+-- whether an image is a log
+abbrev pub IsLog : Logs → Option (List ℕ) → Type 0
+IsLog Never holds = ⊥
+IsLog Texts holds = IfSome holds (λ image. IsTextLog (take front_len image))
+IsLog All holds = ⊤
 
--- a log is not looked for, or the image is none
-abbrev pub IsNoLog : Bool → Option (List ℕ) → Type 0
-IsNoLog takes holds = IfSome holds (λ image. takes ≡ true → ¬ (IsTextLog (take most_log image)))
+abbrev pub IsNoLog : Logs → Option (List ℕ) → Type 0
+IsNoLog Never holds = ⊤
+IsNoLog Texts holds = IfSome holds (λ image. ¬ (IsTextLog (take front_len image)))
+IsNoLog All holds = ⊥
+
+abbrev pub IsSeenLog : Bool → Logs → Option (List ℕ) → Type 0
+IsSeenLog true logs holds = IsLog logs holds
+IsSeenLog false logs holds = IsNoLog logs holds
+
+-- a text from the first line on that begins in it; all of it, if none ends in it
+abbrev pub is_inside : ℕ → Bool
+is_inside b = not (b == 10)
+
+abbrev pub line_len : List ℕ → ℕ
+line_len text = prefix_len is_inside text
+
+abbrev pub whole_lines : List ℕ → List ℕ
+whole_lines text = if nat_lt (line_len text) (length text) then drop (line_len text + 1) text else text
+
+-- the text in a log's last bytes, or in all of it
+abbrev pub text_in : Bool → List ℕ → List ℕ
+text_in is_cut bytes = if is_cut then whole_lines bytes else bytes
+
+abbrev pub log_text : List ℕ → List ℕ
+log_text image = text_in (nat_lt most_log (length image)) (drop (length image - most_log) image)
 
 -- the image's log as a region
-pub record IsHeldLog (takes : Bool) (holds : Option (List ℕ)) (l : LogImage) : Type 0 where
-  pub is_log : IsLog takes holds
-  pub image : IfSome holds (λ image. IsLogImage (take most_log image) l)
+pub record IsHeldLog (logs : Logs) (holds : Option (List ℕ)) (l : LogImage) : Type 0 where
+  pub is_log : IsLog logs holds
+  pub image : IfSome holds (λ image. IsLogImage (log_text image) l)
 
-abbrev pub IsLooked : Bool → Option (List ℕ) → Option LogImage → Type 0
-IsLooked takes holds None = IsNoLog takes holds
-IsLooked takes holds (Some l) = IsHeldLog takes holds l
+abbrev pub IsLooked : Logs → Option (List ℕ) → Option LogImage → Type 0
+IsLooked logs holds None = IsNoLog logs holds
+IsLooked logs holds (Some l) = IsHeldLog logs holds l
 
 -- it could not be read
 abbrev pub IsUnlooked : ℕ → ℕ → Failure → Type 0

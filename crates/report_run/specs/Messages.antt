@@ -5,6 +5,7 @@ use Rattle.outside.specs.Outside.{Rose, AppendsFront}
 use Rattle.report_run.specs.declared.failures.Failure.{Failure}
 use Rattle.report_run.specs.declared.failures.Failure.TheVariants.{Memory, Unopened, Unread, Unwritten, Short, NotFound}
 use Rattle.report_run.specs.declared.failures.Failure.TheVariants.{Unexplained, Unfinished, Unsaved}
+use Rattle.report_run.specs.declared.failures.Failure.TheVariants.{NotThere, NoRegion, Several, NoPlace, Beyond}
 
 -- what it was given, how often it failed, and whether something of a line was lost
 pub record Seen : Type 0 where
@@ -57,6 +58,17 @@ short_line path has needed =
     codes "oopsreport: " ∷ path ∷ codes ": it has " ∷ decimal has ∷ codes " bytes, and the layout needs "
     ∷ decimal needed ∷ (10 ∷ []) ∷ []
 
+-- the line on a memory that ends before its region
+abbrev pub beyond_line : List ℕ → ℕ → ℕ → ℕ → List (List ℕ)
+beyond_line path has size place =
+    codes "oopsreport: " ∷ path ∷ codes ": it has " ∷ decimal has ∷ codes " bytes, and the region has " ∷ decimal size
+    ∷ codes " from " ∷ decimal place ∷ codes " on" ∷ (10 ∷ []) ∷ []
+
+-- the line on several regions, with their places
+abbrev pub several_line : List ℕ → List ℕ → List (List ℕ)
+several_line path places =
+    codes "oopsreport: " ∷ path ∷ codes ": several regions; choose one by --at:" ∷ places ∷ (10 ∷ []) ∷ []
+
 -- the line on the best layout, and the next
 abbrev pub IsBestTold : List ℕ → List (List ℕ) → Seen → Seen → Type 0
 IsBestTold best line a b = (m : Seen) × AreTold (codes "oopsreport: " ∷ best ∷ []) a m × AreTold line m b
@@ -75,3 +87,9 @@ IsMessage path (Unexplained best) a b = IsBestTold (string_bytes best)
 IsMessage path (Unfinished best) a b = IsBestTold (string_bytes best)
     (line_of path (codes "not all layouts were tried; give it by --param, --cmdline or --dtb")) a b
 IsMessage path (Unsaved why) a b = AreTold (line_of path (string_bytes why)) a b
+IsMessage path NotThere a b =
+    AreTold (line_of path (codes "no layout explains what stands at that place; give it by --param")) a b
+IsMessage path NoRegion a b = AreTold (line_of path (codes "no region was found")) a b
+IsMessage path (Several places) a b = AreTold (several_line path (string_bytes places)) a b
+IsMessage path NoPlace a b = AreTold (line_of path (codes "no place is named")) a b
+IsMessage path (Beyond has size place) a b = AreTold (beyond_line path has size place) a b

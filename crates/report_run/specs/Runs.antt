@@ -1,74 +1,45 @@
--- The run over images, one after another
-use Rattle.std.specs.Prelude.{◌≡◌, ◌⊎◌, ◌≤◌, ⊤, ℕ, nat_lt, Bool, true, false, not, ◌&&◌, ◌||◌, if◌then◌else◌, List}
-use Rattle.std.specs.Prelude.{length, take, Option, ◌+◌, [], ◌∷◌, string_bytes}
+-- The run over files, one after another
+use Rattle.std.specs.Prelude.{◌≡◌, ◌⊎◌, ⊤, ℕ, nat_lt, Bool, true, false, not, ◌&&◌, ◌||◌, if◌then◌else◌, List}
+use Rattle.std.specs.Prelude.{length, Option, Some, None, ◌+◌, [], ◌∷◌, string_bytes}
 use Rattle.std.specs.declared.string.String.{String}
 use Rattle.std.specs.declared.alloc.Global.{Global}
 use Rattle.storage_spec.specs.Found.{most_storage}
 use Rattle.region_report.specs.Reports.{ReportHeld}
-use Rattle.report_tool.specs.Saved.{Files, Makes, files_of}
 use Rattle.report_entry.specs.declared.laying.Layouts.{Layouts}
 use Rattle.report_entry.specs.declared.laying.Layouts.TheVariants.{Given, Sought}
 use Rattle.report_run.specs.declared.plans.Asked.{Asked}
+use Rattle.report_run.specs.declared.plans.WholeMemory.{WholeMemory}
+use Rattle.report_run.specs.declared.plans.Wanted.{Wanted}
+use Rattle.report_run.specs.declared.plans.Wanted.TheVariants.{Front, Whole}
 use Rattle.report_run.specs.declared.failures.Failure.{Failure}
-use Rattle.report_run.specs.declared.failures.Failure.TheVariants.{Memory, Unopened, Unsaved}
+use Rattle.report_run.specs.declared.failures.Failure.TheVariants.{Memory, Unopened}
 use Rattle.report_run.specs.Messages.{Seen, IsMessage, IsCounted}
 use Rattle.report_run.specs.Reports.{IsReport, IsNoReport}
+use Rattle.report_run.specs.Saving.{IsSaved, IsUnsaved}
+use Rattle.report_run.specs.States.{State}
+use Rattle.report_run.specs.Memories.{IsMemoryDone, IsMemoryUndone}
 
--- the outputs, and the files that were made
-pub record State : Type 0 where
-  pub out : Option (List ℕ)
-  pub out_faults : ℕ
-  pub errors : Seen
-  pub files : Option Files
-
-abbrev pub state : Option (List ℕ) → ℕ → Seen → Option Files → State
-state out out_faults errors files = record { out = out; out_faults = out_faults; errors = errors; files = files }
-
--- how many bytes of an image are wanted
-abbrev pub most_of : Layouts → ℕ
-most_of (Given plan) = plan.mem
-most_of (Sought known) = most_storage
+-- how much of a file is wanted
+abbrev pub wanted : Option WholeMemory → Layouts → Wanted
+wanted (Some whole) layouts = Whole
+wanted None (Given plan) = Front plan.mem
+wanted None (Sought known) = Front most_storage
 
 abbrev pub IsUnopened : Failure → Type 0
 IsUnopened (Unopened why) = ⊤
 IsUnopened Memory = ⊤
 IsUnopened other = ⊥
 
-abbrev pub IsKeptBack : Failure → Type 0
-IsKeptBack (Unsaved why) = ⊤
-IsKeptBack Memory = ⊤
-IsKeptBack other = ⊥
+-- ---- an image
 
--- the files of the first records were made
-pub record MakesSome (report : ReportHeld) (before now : Option Files) : Type 0 where
-  pub count : ℕ
-  pub within : count ≤ length report.records
-  pub made : Makes before now (files_of report.origin (take count report.records))
-
--- ---- one image
-
--- its records were saved, if that is asked for, and else no file was made
-abbrev pub IsSaved : Bool → ReportHeld → Option Files → Option Files → Type 0
-IsSaved true report before now = Makes before now (files_of report.origin report.records)
-IsSaved false report before now = now ≡ before
-
-pub record IsDone (asked : Asked) (path : List ℕ) (holds : Option (List ℕ)) (a b : State) : Type 0 where
+pub record IsImageDone (asked : Asked) (path : List ℕ) (holds : Option (List ℕ)) (a b : State) : Type 0 where
   pub report : ReportHeld
   pub reported : IsReport asked.layouts asked path holds a.out b.out a.errors b.errors report
   pub saved : IsSaved asked.saves report a.files b.files
 
--- it could not be opened: nothing was done
-pub record IsClosed (a b : State) (why : Failure) : Type 0 where
-  pub cause : IsUnopened why
-  pub out_same : b.out ≡ a.out
-  pub errors_same : b.errors ≡ a.errors
-  pub files_same : b.files ≡ a.files
-
--- or it was not reported: no file was made
-pub record IsUnseen (asked : Asked) (path : List ℕ) (holds : Option (List ℕ)) (a b : State) (why : Failure)
-    : Type 0 where
-  pub read_before : ℕ
-  pub read_now : ℕ
+-- it was not reported: no file was made
+pub record IsUnseen (asked : Asked) (path : List ℕ) (holds : Option (List ℕ)) (read_before read_now : ℕ) (a b : State)
+    (why : Failure) : Type 0 where
   pub cause : IsNoReport asked.layouts asked path holds read_before read_now a.out b.out a.out_faults b.out_faults
       a.errors b.errors why
   pub files_same : b.files ≡ a.files
@@ -78,13 +49,44 @@ pub record IsUnkept (asked : Asked) (path : List ℕ) (holds : Option (List ℕ)
     : Type 0 where
   pub report : ReportHeld
   pub reported : IsReport asked.layouts asked path holds a.out b.out a.errors b.errors report
-  pub saves : asked.saves ≡ true
-  pub made : MakesSome report a.files b.files
-  pub cause : IsKeptBack why
+  pub cause : IsUnsaved asked.saves report a.files b.files why
+
+abbrev pub IsImageUndone : Asked → List ℕ → Option (List ℕ) → ℕ → ℕ → State → State → Failure → Type 0
+IsImageUndone asked path holds read_before read_now a b why =
+    IsUnseen asked path holds read_before read_now a b why ⊎ IsUnkept asked path holds a b why
+
+-- ---- a file: an image, or a whole memory
+
+abbrev pub IsContentDone : Option WholeMemory → Asked → List ℕ → Option (List ℕ) → State → State → Type 0
+IsContentDone None asked path holds a b = IsImageDone asked path holds a b
+IsContentDone (Some whole) asked path holds a b = IsMemoryDone asked.layouts asked whole path holds a b
+
+abbrev pub IsContentUndone : Option WholeMemory → Asked → List ℕ → Option (List ℕ) → ℕ → ℕ → State → State → Failure
+    → Type 0
+IsContentUndone None asked path holds read_before read_now a b why =
+    IsImageUndone asked path holds read_before read_now a b why
+IsContentUndone (Some whole) asked path holds read_before read_now a b why =
+    IsMemoryUndone asked.layouts asked whole path holds read_before read_now a b why
+
+pub record IsDone (asked : Asked) (path : List ℕ) (holds : Option (List ℕ)) (a b : State) : Type 0 where
+  pub done : IsContentDone asked.memory asked path holds a b
+
+-- it could not be opened: nothing was done
+pub record IsClosed (a b : State) (why : Failure) : Type 0 where
+  pub cause : IsUnopened why
+  pub out_same : b.out ≡ a.out
+  pub errors_same : b.errors ≡ a.errors
+  pub files_same : b.files ≡ a.files
+
+-- or not all of what it holds was done
+pub record IsCutOff (asked : Asked) (path : List ℕ) (holds : Option (List ℕ)) (a b : State) (why : Failure)
+    : Type 0 where
+  pub read_before : ℕ
+  pub read_now : ℕ
+  pub cause : IsContentUndone asked.memory asked path holds read_before read_now a b why
 
 abbrev pub IsUndone : Asked → List ℕ → Option (List ℕ) → State → State → Failure → Type 0
-IsUndone asked path holds a b why =
-    IsClosed a b why ⊎ (IsUnseen asked path holds a b why ⊎ IsUnkept asked path holds a b why)
+IsUndone asked path holds a b why = IsClosed a b why ⊎ IsCutOff asked path holds a b why
 
 -- and its message was told
 pub record IsFailed (asked : Asked) (path : List ℕ) (holds : Option (List ℕ)) (a b : State) : Type 0 where
@@ -97,7 +99,7 @@ abbrev pub IsPath : Bool → Asked → List ℕ → Option (List ℕ) → State 
 IsPath true asked path holds a b = IsDone asked path holds a b
 IsPath false asked path holds a b = IsFailed asked path holds a b
 
--- ---- one of several images: one that failed is remembered
+-- ---- one of several files: one that failed is remembered
 
 -- whether it is told how many came before
 abbrev pub is_counted : Asked → ℕ → Bool
@@ -115,11 +117,11 @@ pub record IsStep (asked : Asked) (i all : ℕ) (path : List ℕ) (holds : Optio
 abbrev pub status_of : Bool → Bool → ℕ
 status_of failed is_lost = if failed || is_lost then 1 else 0
 
--- the images at these paths, from number i on, of so many
-unfoldable pub AreSteps : Asked → (List ℕ → ℕ → Option (List ℕ)) → ℕ → ℕ → List (String Global) → State → Bool → State
+-- the files at these paths, from number i on, of so many
+unfoldable pub AreSteps : Asked → (List ℕ → Wanted → Option (List ℕ)) → ℕ → ℕ → List (String Global) → State → Bool → State
     → Bool → Type 0
 AreSteps asked content all i [] a was b now = (b ≡ a) × (now ≡ was)
 AreSteps asked content all i (path ∷ paths) a was b now =
     (m : State) × (failed : Bool)
-    × IsStep asked i all (string_bytes path) (content (string_bytes path) (most_of asked.layouts)) a m was failed
+    × IsStep asked i all (string_bytes path) (content (string_bytes path) (wanted asked.memory asked.layouts)) a m was failed
     × AreSteps asked content all (i + 1) paths m failed b now

@@ -70,13 +70,13 @@ IsStorageUnshown asked path h given now put_before put_now a b why =
 pub record IsAsStorage (asked : Asked) (path : List ℕ) (holds given now : Option (List ℕ)) (a b : Seen)
     (report : ReportHeld) : Type 0 where
   pub storage : HeldStorage
-  pub held : IsLookedAt asked.logs holds (Some storage)
+  pub held : IsLookedAt asked.storages holds (Some storage)
   pub reported : IsStorageShown asked path storage given now a b report
 
 -- or a layout was looked for
 pub record IsAsLaid (asked : Asked) (known : Known) (path : List ℕ) (holds given now : Option (List ℕ)) (a b : Seen)
     (report : ReportHeld) : Type 0 where
-  pub no_storage : IsNoStorage asked.logs holds
+  pub no_storage : IsNoStorage asked.storages holds
   pub reported : IsSoughtReport asked known path holds given now a b report
 
 abbrev pub IsUnloggedReport : Asked → Known → List ℕ → Option (List ℕ) → Option (List ℕ) → Option (List ℕ)
@@ -94,13 +94,13 @@ pub record IsUnseenStorage (read_before read_now : ℕ) (given now : Option (Lis
 pub record IsNotAsStorage (asked : Asked) (path : List ℕ) (holds given now : Option (List ℕ)) (put_before put_now : ℕ)
     (a b : Seen) (why : Failure) : Type 0 where
   pub storage : HeldStorage
-  pub held : IsLookedAt asked.logs holds (Some storage)
+  pub held : IsLookedAt asked.storages holds (Some storage)
   pub cause : IsStorageUnshown asked path storage given now put_before put_now a b why
 
 pub record IsNotAsLaid (asked : Asked) (known : Known) (path : List ℕ) (holds : Option (List ℕ))
     (read_before read_now : ℕ) (given now : Option (List ℕ)) (put_before put_now : ℕ) (a b : Seen) (why : Failure)
     : Type 0 where
-  pub no_storage : IsNoStorage asked.logs holds
+  pub no_storage : IsNoStorage asked.storages holds
   pub read_between : ℕ
   pub later : read_before ≤ read_between
   pub cause : IsNoSoughtReport asked known path holds read_between read_now given now put_before put_now a b why

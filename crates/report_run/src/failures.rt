@@ -1,8 +1,9 @@
 // Why an image is not reported, or its records are not saved.
 ghost use Rattle.std.specs.Prelude.{◌≡◌};
-ghost use Rattle.report_run.specs.Failures.{stop_failure};
+ghost use Rattle.report_run.specs.Failures.{stop_failure, unread_failure};
 
 use command_spec::Stop;
+use found_regions::Unread;
 use std::alloc::AllocError;
 
 /// Why an image is not reported, or its records are not saved.
@@ -25,6 +26,16 @@ pub enum Failure {
     Unfinished(String),
     /// A record was not saved, for this reason.
     Unsaved(String),
+    /// No layout explains what stands at the place that is named.
+    NotThere,
+    /// No region was found in a whole memory.
+    NoRegion,
+    /// One of several regions must be chosen: their places.
+    Several(String),
+    /// The layout of a region is given, and its place in the memory is not.
+    NoPlace,
+    /// The memory has so many bytes, and the region ends behind them.
+    Beyond { has: u64, size: u32, place: u64 },
 }
 
 impl From<AllocError> for Failure {
@@ -46,5 +57,15 @@ pub fn stop_failure(stop: Stop) -> Failure
         Stop::ImageFault => Failure::Unread,
         Stop::SinkFault => Failure::Unwritten,
         _ => Failure::Memory,
+    }
+}
+
+/// Why a whole memory was not read.
+pub fn unread_failure(unread: Unread) -> Failure
+    ensures { result ≡ unread_failure unread }
+{
+    match unread {
+        Unread::Memory => Failure::Memory,
+        Unread::Fault => Failure::Unread,
     }
 }

@@ -111,7 +111,7 @@ fn unlogged_report<M: Load, O: Sink, E: Sink>(
         (seen (E.given messages.new.errors) (E.faults messages.new.errors) messages.new.is_lost)) }
     ensures same { M.holds image.new ≡ M.holds image.old }
 {
-    match storage_of(alloc, asked.logs, image) {
+    match storage_of(alloc, asked.storages, image) {
         Ok(Some(storage)) => report_storage(alloc, asked, &storage, path, out, messages),
         Ok(None) => sought_report(alloc, asked, known, path, image, out, messages),
         Err(why) => Err(why),

@@ -1,17 +1,23 @@
-//! One image of `oopsreport` after another: what is given to standard output and to standard error, which files are
-//! made, and the status. The images, the two outputs and the folder are the caller's.
+//! One file of `oopsreport` after another, an image or a whole memory: what is given to standard output and to standard
+//! error, which files are made, and the status. The files, the two outputs and the folder are the caller's.
 #![tactic(auto)]
 
+mod choosing;
 mod failures;
 mod images;
 mod logs;
+mod memories;
 mod messages;
+mod places;
 mod plans;
+mod records;
+mod regions;
 mod running;
 mod storages;
 
 pub use failures::Failure;
-pub use images::{report_by, tell_layout};
+pub use found_regions::Watch;
 pub use messages::Messages;
-pub use plans::{Asked, dressed};
-pub use running::{Images, Records, run, status_of};
+pub use plans::{Asked, Logs, Wanted, WholeMemory, dressed};
+pub use records::Records;
+pub use running::{Images, run, status_of};

@@ -1,46 +1,132 @@
 // An image that is a text log.
-ghost use Rattle.std.specs.Prelude.{◌≡◌, ◌≤◌, IfOk, IfErr, MatchResult};
+ghost use Rattle.std.specs.Prelude.{◌≡◌, ◌≤◌, length, drop, Some, IfSome, IfOk, IfErr, MatchResult};
 ghost use Rattle.report_run.specs.Images.{IsStopped};
 ghost use Rattle.report_run.specs.Plans.{dressed as dressed_as, map_of};
-ghost use Rattle.report_run.specs.Logs.{IsLooked, IsUnlooked, IsLogUnreported};
+ghost use Rattle.report_run.specs.Logs.{IsSeenLog, is_inside, line_len, whole_lines, text_in, log_text, IsLooked};
+ghost use Rattle.report_run.specs.Logs.{IsUnlooked, IsLogUnreported};
+ghost use Rattle.log_image.specs.Images.{IsLogImage};
 ghost use Rattle.report_tool.specs.Images.{IsReported};
 
-use crate::failures::{Failure, stop_failure};
+use crate::failures::{Failure, stop_failure, unread_failure};
 use crate::images::report_by;
-use crate::plans::{Asked, dressed};
+use crate::plans::{Asked, Logs, dressed};
 use image_file::load_front;
 use log_image::{LogImage, log_image};
+use memory_regions::window;
 use outside::{Bytes, Load, Sink};
 use region_report::Report;
 use report_entry::Image;
 use std::alloc::Global;
 use text_log::is_text_log;
 
-/// So much of a log is read.
+/// So many bytes tell whether an image is a text.
+const FRONT: u32 = 65_536;
+
+/// So many bytes of a log are read.
 const MOST_LOG: u32 = 268_435_456;
 
-/// The log that an image is, if logs are looked for, as a region whose console holds its last boot.
-pub fn held_log<M: Load>(
-    alloc: Global,
-    takes: bool,
-    image: &mut M,
-) -> Result<Option<LogImage>, Failure>
-    ensures looked { IfOk result (IsLooked takes (M.holds image.old)) }
+const MOST: u64 = 268_435_456;
+
+// Whether an image is a text, as its front shows.
+#[tactic(auto, using(crate::proofs::LogEnds::text_seen))]
+fn is_text<M: Load>(alloc: Global, image: &mut M) -> Result<bool, Failure>
+    ensures seen { IfOk result (λ is. IsSeenLog is Logs.Texts (M.holds image.old)) }
     ensures unlooked { IfErr result (IsUnlooked (M.faults image.old) (M.faults image.new)) }
     ensures same { M.holds image.new ≡ M.holds image.old }
     ensures later { M.faults image.old ≤ M.faults image.new }
 {
-    if !takes {
-        return Ok(None);
+    match load_front(alloc, image, FRONT) {
+        Ok(front) => Ok(is_text_log(&front)),
+        Err(stop) => Err(stop_failure(stop)),
     }
-    let text = match load_front(alloc, image, MOST_LOG) {
-        Ok(text) => text,
-        Err(stop) => return Err(stop_failure(stop)),
+}
+
+fn is_log<M: Load>(alloc: Global, logs: Logs, image: &mut M) -> Result<bool, Failure>
+    ensures seen { IfOk result (λ is. IsSeenLog is logs (M.holds image.old)) }
+    ensures unlooked { IfErr result (IsUnlooked (M.faults image.old) (M.faults image.new)) }
+    ensures same { M.holds image.new ≡ M.holds image.old }
+    ensures later { M.faults image.old ≤ M.faults image.new }
+{
+    match logs {
+        Logs::Never => Ok(false),
+        Logs::Texts => is_text(alloc, image),
+        Logs::All => Ok(true),
+    }
+}
+
+fn is_inside(b: u8) -> bool
+    ensures { result ≡ is_inside b }
+{
+    b != b'\n'
+}
+
+// How many bytes a text's first line has.
+fn line_len(text: &[u8]) -> usize
+    ensures len { result ≡ line_len text.now }
+    ensures within { result ≤ length text.now }
+{
+    let mut len = 0;
+    'bytes: while len < text.len() && is_inside(text[len]) {
+        len += 1;
+    }
+    len
+}
+
+// What stands from a place on; nothing past the end.
+fn tail(text: &[u8], at: usize) -> &[u8]
+    ensures { result.now ≡ drop at text.now }
+{
+    if at < text.len() { &text[at..] } else { &[] }
+}
+
+// A text from the first line on that begins in it.
+fn whole_lines(text: &[u8]) -> &[u8]
+    ensures { result.now ≡ whole_lines text.now }
+{
+    let len = line_len(text);
+    if len < text.len() { tail(text, len + 1) } else { text }
+}
+
+// The text in a log's last bytes, or in all of it.
+fn text_in(is_cut: bool, bytes: &[u8]) -> &[u8]
+    ensures { result.now ≡ text_in is_cut bytes.now }
+{
+    if is_cut { whole_lines(bytes) } else { bytes }
+}
+
+// A log as a region.
+fn log_of<M: Load>(alloc: Global, image: &mut M) -> Result<LogImage, Failure>
+    ensures image { IfOk result (λ l. IfSome (M.holds image.old) (λ bs. IsLogImage (log_text bs) l)) }
+    ensures unlooked { IfErr result (IsUnlooked (M.faults image.old) (M.faults image.new)) }
+    ensures same { M.holds image.new ≡ M.holds image.old }
+    ensures later { M.faults image.old ≤ M.faults image.new }
+{
+    let Ok(size) = image.size() else {
+        return Err(Failure::Unread);
     };
-    if !is_text_log(&text) {
+    let bytes = match window(alloc, image, size.saturating_sub(MOST), MOST_LOG) {
+        Ok(bytes) => bytes,
+        Err(unread) => return Err(unread_failure(unread)),
+    };
+    let log = log_image(alloc, text_in(size > MOST, &bytes))?;
+    Ok(log)
+}
+
+/// The log that an image is, if logs are looked for, as a region whose console holds its last boot.
+pub fn held_log<M: Load>(
+    alloc: Global,
+    logs: Logs,
+    image: &mut M,
+) -> Result<Option<LogImage>, Failure>
+    ensures looked { IfOk result (IsLooked logs (M.holds image.old)) }
+    ensures unlooked { IfErr result (IsUnlooked (M.faults image.old) (M.faults image.new)) }
+    ensures same { M.holds image.new ≡ M.holds image.old }
+    ensures later { M.faults image.old ≤ M.faults image.new }
+{
+    if !is_log(alloc, logs, image)? {
         return Ok(None);
     }
-    let log = log_image(alloc, &text)?;
+    let log = log_of(alloc, image)?;
     Ok(Some(log))
 }
 

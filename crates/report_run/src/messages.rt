@@ -1,6 +1,7 @@
 // Lines to standard error.
 ghost use Rattle.std.specs.Prelude.{◌≡◌, [], ◌∷◌, codes, false};
 ghost use Rattle.report_run.specs.Messages.{seen, IsTold, AreTold, place_line, IsCounted, IsEnded, line_of, short_line};
+ghost use Rattle.report_run.specs.Messages.{beyond_line, several_line};
 ghost use Rattle.report_run.specs.Messages.{IsBestTold, IsMessage};
 
 use crate::failures::Failure;
@@ -104,6 +105,40 @@ impl<E: Sink> Messages<E> {
         self.tell(b"\n");
     }
 
+    // The line on a memory that ends before its region.
+    fn tell_beyond(&mut self, path: &str, has: u64, size: u32, place: u64)
+        ensures { AreTold (beyond_line path.now has size place)
+            (seen (E.given self.old.errors) (E.faults self.old.errors) self.old.is_lost)
+            (seen (E.given self.new.errors) (E.faults self.new.errors) self.new.is_lost) }
+    {
+        self.tell(b"oopsreport: ");
+        self.tell(path.as_bytes());
+        self.tell(b": it has ");
+        let mut number = Buffer::new();
+        self.tell(number.format(has).as_bytes());
+        self.tell(b" bytes, and the region has ");
+        let mut number = Buffer::new();
+        self.tell(number.format(size).as_bytes());
+        self.tell(b" from ");
+        let mut number = Buffer::new();
+        self.tell(number.format(place).as_bytes());
+        self.tell(b" on");
+        self.tell(b"\n");
+    }
+
+    // The line on several regions, with their places.
+    fn tell_several(&mut self, path: &str, places: &str)
+        ensures { AreTold (several_line path.now places.now)
+            (seen (E.given self.old.errors) (E.faults self.old.errors) self.old.is_lost)
+            (seen (E.given self.new.errors) (E.faults self.new.errors) self.new.is_lost) }
+    {
+        self.tell(b"oopsreport: ");
+        self.tell(path.as_bytes());
+        self.tell(b": several regions; choose one by --at:");
+        self.tell(places.as_bytes());
+        self.tell(b"\n");
+    }
+
     // The line on the best layout, and why it is not taken.
     fn tell_best(&mut self, path: &str, best: &str, why: &str)
         ensures { IsBestTold best.now (line_of path.now why.now)
@@ -148,6 +183,16 @@ impl<E: Sink> Messages<E> {
                 );
             }
             Failure::Unsaved(why) => self.tell_line(path, why),
+            Failure::NotThere => {
+                self.tell_line(
+                    path,
+                    "no layout explains what stands at that place; give it by --param",
+                );
+            }
+            Failure::NoRegion => self.tell_line(path, "no region was found"),
+            Failure::Several(places) => self.tell_several(path, places),
+            Failure::NoPlace => self.tell_line(path, "no place is named"),
+            Failure::Beyond { has, size, place } => self.tell_beyond(path, *has, *size, *place),
         }
     }
 }

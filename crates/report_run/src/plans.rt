@@ -10,6 +10,35 @@ use report_tool::{Format, Known, Plan, find};
 use std::alloc::{AllocError, Global};
 use symbols::Symbols;
 
+/// A copy of all of a machine's memory.
+#[derive(Clone, Copy)]
+pub struct WholeMemory {
+    /// The address of its first byte; 0 if that is not known.
+    pub base: u64,
+    /// The place of the region in it, if one is named.
+    pub place: Option<u64>,
+}
+
+/// How much of a file is wanted.
+#[derive(Clone, Copy)]
+pub enum Wanted {
+    /// At most so many bytes of the image in it.
+    Front(u32),
+    /// All of it, as it stands.
+    Whole,
+}
+
+/// Which images of which no layout is known are text logs.
+#[derive(Clone, Copy)]
+pub enum Logs {
+    /// None.
+    Never,
+    /// Those that are a text.
+    Texts,
+    /// Each.
+    All,
+}
+
 /// How images are reported.
 #[derive(Drop)]
 pub struct Asked {
@@ -20,8 +49,12 @@ pub struct Asked {
     pub lines: usize,
     /// The map of the kernel's functions.
     pub map: Option<Vec<u8>>,
-    /// Whether an image of which no layout is known is looked at for a text log, and for a storage.
-    pub logs: bool,
+    /// Which images are text logs, where no layout is known.
+    pub logs: Logs,
+    /// Whether an image of which no layout is known, and that is no text log, is looked at for a storage.
+    pub storages: bool,
+    /// If the files are whole memories, in which the regions are reported.
+    pub memory: Option<WholeMemory>,
     /// Whether the records are saved.
     pub saves: bool,
     /// Whether standard error is told how many of several images are done.

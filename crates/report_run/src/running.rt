@@ -1,108 +1,144 @@
-// The images, one after another.
+// Files, one after another.
 ghost use Rattle.std.specs.Prelude.{◌≡◌, ℕ, not, ◌||◌, List, Option, IfOk, IfErr, MatchResult, false, length};
-ghost use Rattle.report_tool.specs.Saved.{Files, Makes, files_of};
 ghost use Rattle.report_run.specs.Messages.{seen};
-ghost use Rattle.report_run.specs.Runs.{state, most_of, IsUnopened, IsKeptBack, MakesSome, IsDone, IsUndone, IsPath};
-ghost use Rattle.report_run.specs.Runs.{is_counted, IsStep, AreSteps, status_of};
+ghost use Rattle.report_run.specs.States.{state};
+ghost use Rattle.report_run.specs.Runs.{wanted, IsUnopened, IsImageDone, IsImageUndone, IsContentDone, IsContentUndone};
+ghost use Rattle.report_run.specs.Runs.{IsDone, IsUndone, IsPath, is_counted, IsStep, AreSteps, status_of};
 
 use crate::failures::Failure;
 use crate::images::report_image;
+use crate::memories::report_memory;
 use crate::messages::Messages;
-use crate::plans::Asked;
+use crate::plans::{Asked, Wanted, WholeMemory};
+use crate::records::{Records, save_asked};
+use found_regions::Watch;
 use outside::{Load, Sink};
-use region_report::Report;
 use report_entry::Layouts;
 use std::alloc::Global;
 
 /// So much is read of an image that is no file and whose layout is looked for: the most that a storage has.
 const MOST: u32 = 134_217_728;
 
-/// Where images are opened.
+/// Where files are opened.
 pub trait Images {
     type Image: Load + Drop;
 
-    // What the image at a path holds, of which at most so many bytes are wanted, where that is told.
-    ghost content: { Self → List ℕ → ℕ → Option (List ℕ) };
+    // What the file at a path holds, of which so much is wanted, where that is told.
+    ghost content: { Self → List ℕ → Wanted → Option (List ℕ) };
 
-    /// Opens the image at a path, of which at most `most` bytes are wanted.
-    fn open(&mut self, path: &str, most: u32) -> Result<Self::Image, Failure>
-        ensures held { IfOk result (λ image. Self.Image.holds image ≡ content self.old path.now most) }
+    /// Opens the file at a path, of which so much is wanted.
+    fn open(&mut self, path: &str, wanted: Wanted) -> Result<Self::Image, Failure>
+        ensures held { IfOk result (λ image. Self.Image.holds image ≡ content self.old path.now wanted) }
         ensures why { IfErr result IsUnopened }
         ensures same { content self.new ≡ content self.old };
 }
 
-/// Where the records of images are saved.
-pub trait Records {
-    // The names and contents of the files that were made, in order, where that is told.
-    ghost made: { Self → Option Files };
-
-    /// Makes a file of each record, in order.
-    fn save(&mut self, report: &Report) -> Result<(), Failure>
-        ensures made { MatchResult result (λ _. Makes (made self.old) (made self.new) (files_of report.now.origin report.now.records))
-            (λ _. MakesSome report.now (made self.old) (made self.new)) }
-        ensures why { IfErr result IsKeptBack };
-}
-
-// How many bytes of an image are wanted.
-fn most_of(layouts: &Layouts) -> u32
-    ensures { result ≡ most_of layouts.now }
+// How much of a file is wanted.
+fn wanted(memory: Option<WholeMemory>, layouts: &Layouts) -> Wanted
+    ensures { result ≡ wanted memory layouts.now }
 {
-    match layouts {
-        Layouts::Given(plan) => plan.mem(),
-        Layouts::Sought(_) => MOST,
+    match (memory, layouts) {
+        (Some(_), _) => Wanted::Whole,
+        (None, Layouts::Given(plan)) => Wanted::Front(plan.mem()),
+        (None, Layouts::Sought(_)) => Wanted::Front(MOST),
     }
 }
 
-// One image: its report, and its records saved, if that is asked for.
-fn one_image<I: Images, O: Sink, E: Sink, F: Records>(
+// An image: its report, and its records saved, if that is asked for.
+fn one_image<M: Load, O: Sink, E: Sink, F: Records>(
+    alloc: Global,
+    asked: &Asked,
+    path: &str,
+    image: &mut M,
+    out: &mut O,
+    messages: &mut Messages<E>,
+    records: &mut F,
+) -> Result<(), Failure>
+    ensures { let before = state (O.given out.old) (O.faults out.old)
+        (seen (E.given messages.old.errors) (E.faults messages.old.errors) messages.old.is_lost) (F.made records.old) in
+        let after = state (O.given out.new) (O.faults out.new)
+        (seen (E.given messages.new.errors) (E.faults messages.new.errors) messages.new.is_lost) (F.made records.new) in
+        MatchResult result (λ _. IsImageDone asked.now path.now (M.holds image.old) before after)
+        (IsImageUndone asked.now path.now (M.holds image.old) (M.faults image.old) (M.faults image.new) before after) }
+{
+    let report = report_image(alloc, asked, path, image, out, messages)?;
+    save_asked(asked.saves, &report, records)?;
+    Ok(())
+}
+
+// What a file holds: an image, or a whole memory.
+fn one_content<M: Load, W: Watch, O: Sink, E: Sink, F: Records>(
+    alloc: Global,
+    asked: &Asked,
+    path: &str,
+    image: &mut M,
+    watch: &mut W,
+    out: &mut O,
+    messages: &mut Messages<E>,
+    records: &mut F,
+) -> Result<(), Failure>
+    ensures { let before = state (O.given out.old) (O.faults out.old)
+        (seen (E.given messages.old.errors) (E.faults messages.old.errors) messages.old.is_lost) (F.made records.old) in
+        let after = state (O.given out.new) (O.faults out.new)
+        (seen (E.given messages.new.errors) (E.faults messages.new.errors) messages.new.is_lost) (F.made records.new) in
+        MatchResult result
+        (λ _. IsContentDone asked.now.memory asked.now path.now (M.holds image.old) before after)
+        (IsContentUndone asked.now.memory asked.now path.now (M.holds image.old) (M.faults image.old)
+        (M.faults image.new) before after) }
+{
+    match asked.memory {
+        Some(whole) => report_memory(
+            alloc, asked, path, whole, image, watch, out, messages, records,
+        ),
+        None => one_image(alloc, asked, path, image, out, messages, records),
+    }
+}
+
+// One file, opened.
+fn one_file<I: Images, W: Watch, O: Sink, E: Sink, F: Records>(
     alloc: Global,
     asked: &Asked,
     path: &str,
     images: &mut I,
+    watch: &mut W,
     out: &mut O,
     messages: &mut Messages<E>,
     records: &mut F,
 ) -> Result<(), Failure>
     ensures done { let before = state (O.given out.old) (O.faults out.old)
-        (seen (E.given messages.old.errors) (E.faults messages.old.errors) messages.old.is_lost)
-        (F.made records.old) in
+        (seen (E.given messages.old.errors) (E.faults messages.old.errors) messages.old.is_lost) (F.made records.old) in
         let after = state (O.given out.new) (O.faults out.new)
-        (seen (E.given messages.new.errors) (E.faults messages.new.errors) messages.new.is_lost)
-        (F.made records.new) in
-        let holds = I.content images.old path.now (most_of asked.now.layouts) in
+        (seen (E.given messages.new.errors) (E.faults messages.new.errors) messages.new.is_lost) (F.made records.new) in
+        let holds = I.content images.old path.now (wanted asked.now.memory asked.now.layouts) in
         MatchResult result (λ _. IsDone asked.now path.now holds before after)
         (IsUndone asked.now path.now holds before after) }
     ensures same { I.content images.new ≡ I.content images.old }
 {
-    let mut image = images.open(path, most_of(&asked.layouts))?;
-    let report = report_image(alloc, asked, path, &mut image, out, messages)?;
-    if asked.saves {
-        records.save(&report)?;
-    }
+    let mut image = images.open(path, wanted(asked.memory, &asked.layouts))?;
+    one_content(alloc, asked, path, &mut image, watch, out, messages, records)?;
     Ok(())
 }
 
-// One image, and the message on what went wrong with it. Answers whether all was done.
-fn one_path<I: Images, O: Sink, E: Sink, F: Records>(
+// One file, and the message on what went wrong with it. Answers whether all was done.
+fn one_path<I: Images, W: Watch, O: Sink, E: Sink, F: Records>(
     alloc: Global,
     asked: &Asked,
     path: &str,
     images: &mut I,
+    watch: &mut W,
     out: &mut O,
     messages: &mut Messages<E>,
     records: &mut F,
 ) -> bool
     ensures done { let before = state (O.given out.old) (O.faults out.old)
-        (seen (E.given messages.old.errors) (E.faults messages.old.errors) messages.old.is_lost)
-        (F.made records.old) in
+        (seen (E.given messages.old.errors) (E.faults messages.old.errors) messages.old.is_lost) (F.made records.old) in
         let after = state (O.given out.new) (O.faults out.new)
-        (seen (E.given messages.new.errors) (E.faults messages.new.errors) messages.new.is_lost)
-        (F.made records.new) in
-        let holds = I.content images.old path.now (most_of asked.now.layouts) in
+        (seen (E.given messages.new.errors) (E.faults messages.new.errors) messages.new.is_lost) (F.made records.new) in
+        let holds = I.content images.old path.now (wanted asked.now.memory asked.now.layouts) in
         IsPath result asked.now path.now holds before after }
     ensures same { I.content images.new ≡ I.content images.old }
 {
-    match one_image(alloc, asked, path, images, out, messages, records) {
+    match one_file(alloc, asked, path, images, watch, out, messages, records) {
         Ok(()) => true,
         Err(failure) => {
             messages.tell_failure(path, &failure);
@@ -123,15 +159,16 @@ fn has_failed(failed: bool, done: bool) -> bool
     failed || !done
 }
 
-// One image of `all`, of which `i` came before: its report, its records saved, if that is asked for, and the message
+// One file of `all`, of which `i` came before: its report, its records saved, if that is asked for, and the message
 // on what went wrong. `failed` says whether one failed before; the answer, whether one did so far.
-fn report_path<I: Images, O: Sink, E: Sink, F: Records>(
+fn report_path<I: Images, W: Watch, O: Sink, E: Sink, F: Records>(
     alloc: Global,
     asked: &Asked,
     i: usize,
     all: usize,
     path: &str,
     images: &mut I,
+    watch: &mut W,
     out: &mut O,
     messages: &mut Messages<E>,
     records: &mut F,
@@ -141,12 +178,12 @@ fn report_path<I: Images, O: Sink, E: Sink, F: Records>(
         (seen (E.given messages.old.errors) (E.faults messages.old.errors) messages.old.is_lost) (F.made records.old) in
         let after = state (O.given out.new) (O.faults out.new)
         (seen (E.given messages.new.errors) (E.faults messages.new.errors) messages.new.is_lost) (F.made records.new) in
-        let holds = I.content images.old path.now (most_of asked.now.layouts) in
+        let holds = I.content images.old path.now (wanted asked.now.memory asked.now.layouts) in
         IsStep asked.now i all path.now holds before after failed result }
     ensures same { I.content images.new ≡ I.content images.old }
 {
     messages.tell_count(is_counted(asked, all), i, all);
-    let done = one_path(alloc, asked, path, images, out, messages, records);
+    let done = one_path(alloc, asked, path, images, watch, out, messages, records);
     has_failed(failed, done)
 }
 
@@ -157,13 +194,14 @@ pub fn status_of(failed: bool, is_lost: bool) -> u8
     if failed || is_lost { 1 } else { 0 }
 }
 
-/// Reports the images at these paths, one after another, and saves their records, if that is asked for. One that fails
+/// Reports the files at these paths, images or whole memories, one after another, and saves their records, if that is asked for. One that fails
 /// is told on standard error, and ends nothing. Answers whether some image failed.
-pub fn run<I: Images, O: Sink, E: Sink, F: Records>(
+pub fn run<I: Images, W: Watch, O: Sink, E: Sink, F: Records>(
     alloc: Global,
     asked: &Asked,
     paths: &[String],
     images: &mut I,
+    watch: &mut W,
     out: &mut O,
     messages: &mut Messages<E>,
     records: &mut F,
@@ -183,6 +221,7 @@ pub fn run<I: Images, O: Sink, E: Sink, F: Records>(
             paths.len(),
             &paths[i],
             images,
+            watch,
             out,
             messages,
             records,

@@ -14,6 +14,8 @@ mod report_html_tests;
 #[cfg(test)]
 mod report_json_tests;
 #[cfg(test)]
+mod report_run_tests;
+#[cfg(test)]
 mod report_text_tests;
 #[cfg(test)]
 mod report_tool_tests;

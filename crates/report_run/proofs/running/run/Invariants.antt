@@ -1,7 +1,7 @@
 -- The images so far were reported, and the others are not begun. For the loop of `run`.
 use Rattle.std.proofs.Common.{◌≡◌}
 use Rattle.report_run.specs.Messages.{seen}
-use Rattle.report_run.specs.Runs.{state}
+use Rattle.report_run.specs.States.{state}
 use Rattle.report_run.proofs.RunSteps.{Continues}
 use Rattle.report_run.proofs.running.run.Given as goal
 

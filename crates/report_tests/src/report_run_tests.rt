@@ -1,0 +1,183 @@
+// Runs over files: whole memories, and text logs.
+ghost use Rattle.std.specs.Prelude.{◌≡◌, Some, None, IfOk, IfErr, MatchResult};
+
+use outside::{Bytes, Calls, MemSink};
+use region_report::Report;
+use report_entry::{Image, Layouts};
+use report_run::*;
+use report_tool::{Format, Known, known};
+use std::alloc::Global;
+use std::test::Fail;
+
+// One file, whatever its path.
+#[derive(Drop)]
+struct Held {
+    alloc: Global,
+    bytes: Bytes,
+}
+
+impl Images for Held {
+    type Image = Image;
+
+    ghost content = { λ s _ _. Some s.bytes };
+
+    fn open(&mut self, _path: &str, _wanted: Wanted) -> Result<Image, Failure> {
+        Ok(Image::new(Bytes::copy_of(self.alloc, &self.bytes)?))
+    }
+}
+
+// A folder that takes every record.
+#[derive(Drop)]
+struct Taken {
+    count: usize,
+}
+
+impl Records for Taken {
+    ghost made = { λ _. None };
+
+    fn save(&mut self, _report: &Report) -> Result<(), Failure> {
+        self.count = self.count.saturating_add(1);
+        Ok(())
+    }
+}
+
+// Nobody looks how far a reading has come.
+#[derive(Drop)]
+struct Unwatched;
+
+impl Watch for Unwatched {
+    fn reached(&mut self, _done: u64, _all: u64) {}
+}
+
+fn asked(format: Format, logs: Logs, memory: Option<WholeMemory>, saves: bool) -> Asked {
+    Asked {
+        layouts: Layouts::Sought(known(&[])),
+        format,
+        lines: 10,
+        map: None,
+        logs,
+        storages: false,
+        memory,
+        saves,
+        counts: false,
+    }
+}
+
+// What the outputs were given, and whether the file failed.
+#[derive(Drop)]
+struct Done {
+    out: Vec<u8>,
+    errors: Vec<u8>,
+    has_failed: bool,
+}
+
+fn sink(alloc: Global) -> Result<MemSink, Fail> {
+    Ok(MemSink::new(alloc, 65_536, Calls::new(alloc, &[])?)?)
+}
+
+fn done(alloc: Global, asked: &Asked, bytes: Vec<u8>) -> Result<Done, Fail> {
+    let mut paths = Vec::new(alloc);
+    paths.push(String::from_str(alloc, "file")?)?;
+    let mut held = Held {
+        alloc,
+        bytes: Bytes::from_vec(bytes),
+    };
+    let mut out = sink(alloc)?;
+    let mut messages = Messages::new(sink(alloc)?);
+    let mut taken = Taken { count: 0 };
+    let has_failed = run(
+        alloc,
+        asked,
+        &paths,
+        &mut held,
+        &mut Unwatched,
+        &mut out,
+        &mut messages,
+        &mut taken,
+    );
+    Ok(Done {
+        out: Vec::from_slice(alloc, out.bytes())?,
+        errors: Vec::from_slice(alloc, messages.errors.bytes())?,
+        has_failed,
+    })
+}
+
+// A memory of four pages, with a console of three bytes at each of these.
+fn memory_of(alloc: Global, pages: &[usize]) -> Result<Vec<u8>, Fail> {
+    let mut bytes = Vec::new(alloc);
+    for page in 0..4 {
+        if pages.contains(&page) {
+            bytes.extend_from_slice(&[0x44, 0x42, 0x47, 0x43, 3, 0, 0, 0, 3, 0, 0, 0, 97, 60, 10])?;
+        }
+        bytes.resize(4096 * (page + 1), 0)?;
+    }
+    Ok(bytes)
+}
+
+fn begins_and_has(text: &[u8], front: &str, piece: &str) -> Result<bool, Fail> {
+    let text = str::from_utf8(text)?;
+    Ok(text.starts_with(front) && text.contains(piece))
+}
+
+const WHOLE: WholeMemory = WholeMemory {
+    base: 0x8000,
+    place: None,
+};
+
+#[test]
+fn a_region_of_a_memory(rt: HostRuntime) -> Result<(), Fail> {
+    let asked = asked(Format::Text, Logs::Never, Some(WHOLE), false);
+    let done = done(rt.alloc(), &asked, memory_of(rt.alloc(), &[2])?)?;
+    let front = "file@0xa000: 4096 bytes; layout found: record_size=0 console_size=4096 ";
+    let is_told = begins_and_has(&done.out, front, "console-ramoops-0\n")?;
+    assert!(rt; is_told && done.errors.is_empty() && !done.has_failed);
+    Ok(())
+}
+
+#[test]
+fn refusals_of_a_memory(rt: HostRuntime) -> Result<(), Fail> {
+    let at = WholeMemory {
+        base: 0,
+        place: Some(4096),
+    };
+    for (format, whole, pages, words) in [
+        (
+            Format::Html,
+            WHOLE,
+            [1, 3].as_slice(),
+            "oopsreport: file: several regions; choose one by --at: 0x9000 0xb000\n",
+        ),
+        (
+            Format::Text,
+            WHOLE,
+            [].as_slice(),
+            "oopsreport: file: no region was found\n",
+        ),
+        (
+            Format::Text,
+            at,
+            [2].as_slice(),
+            "oopsreport: file: no layout explains what stands at that place; give it by --param\n",
+        ),
+    ] {
+        let asked = asked(format, Logs::Never, Some(whole), false);
+        let done = done(rt.alloc(), &asked, memory_of(rt.alloc(), pages)?)?;
+        assert!(rt; done.errors.as_slice() == words.as_bytes());
+        assert!(rt; done.out.is_empty() && done.has_failed);
+    }
+    Ok(())
+}
+
+#[test]
+fn logs_with_zero_bytes(rt: HostRuntime) -> Result<(), Fail> {
+    for (logs, is_log) in [(Logs::All, true), (Logs::Texts, false), (Logs::Never, false)] {
+        let asked = asked(Format::Text, logs, None, false);
+        let mut text = Vec::new(rt.alloc());
+        text.extend_from_slice(b"Kernel panic - not syncing: \0 gone\n")?;
+        let done = done(rt.alloc(), &asked, text)?;
+        assert!(rt; done.has_failed != is_log);
+        let has_panic = begins_and_has(&done.out, "died: Kernel panic", "console-ramoops-0\n")?;
+        assert!(rt; has_panic == is_log);
+    }
+    Ok(())
+}
