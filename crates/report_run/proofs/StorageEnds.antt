@@ -5,7 +5,7 @@ use Rattle.std.specs.Prelude.{Result, Ok, Err, MatchResult}
 use Rattle.command_spec.specs.declared.Stop.{Stop}
 use Rattle.layout_spec.specs.declared.Known.{Known}
 use Rattle.region_report.specs.Reports.{ReportHeld}
-use Rattle.storage_report.specs.declared.loading.HeldStorage.{HeldStorage}
+use Rattle.storage_report.specs.declared.storage.HeldStorage.{HeldStorage}
 use Rattle.storage_report.specs.Held.{IsHeld}
 use Rattle.storage_report.specs.Given.{IsReported, IsUnreported}
 use Rattle.report_run.specs.declared.plans.Asked.{Asked}

@@ -3,7 +3,7 @@ use Rattle.std.specs.Prelude.{◌≡◌, ◌⊎◌, ◌≤◌, ℕ, Bool, true, 
 use Rattle.command_spec.specs.declared.Stop.{Stop}
 use Rattle.storage_spec.specs.Found.{front_of, storage_in}
 use Rattle.storage_spec.specs.Told.{storage_lines}
-use Rattle.storage_report.specs.declared.loading.HeldStorage.{HeldStorage}
+use Rattle.storage_report.specs.declared.storage.HeldStorage.{HeldStorage}
 use Rattle.storage_report.specs.Held.{IsHeld}
 use Rattle.storage_report.specs.Given.{IsReported, IsUnreported}
 use Rattle.layout_spec.specs.declared.Known.{Known}

@@ -2,7 +2,7 @@
 use Rattle.std.proofs.Common.{◌≡◌, ◌∙◌, List, ℕ, Option, Some, None, take, ap, sym, subst}
 use Rattle.std.specs.Prelude.{IfSome}
 use Rattle.storage_spec.specs.Found.{most_storage, whole_pages}
-use Rattle.storage_report.specs.declared.loading.HeldStorage.{HeldStorage}
+use Rattle.storage_report.specs.declared.storage.HeldStorage.{HeldStorage}
 use Rattle.storage_report.specs.Held.{IsShownIn, IsHeld}
 
 pub shown_at : (holds : Option (List ℕ)) (front pages : List ℕ) (held : Option HeldStorage)

@@ -9,7 +9,7 @@ use Rattle.report_spec.specs.declared.Division.TheVariants.{Storage as OfSizes}
 use Rattle.region_report.specs.Reports.{ReportHeld}
 use Rattle.report_tool.specs.declared.showing.Format.{Format}
 use Rattle.report_tool.specs.Shown.{ShowsZones}
-use Rattle.storage_report.specs.declared.loading.HeldStorage.{HeldStorage}
+use Rattle.storage_report.specs.declared.storage.HeldStorage.{HeldStorage}
 use Rattle.storage_report.specs.Reports.{IsStorageReport}
 
 -- a text is the report of a storage in a format

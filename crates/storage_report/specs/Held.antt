@@ -1,7 +1,7 @@
 -- The storage that an image shows
 use Rattle.std.specs.Prelude.{◌≡◌, List, ℕ, Option, Some, None, IfSome}
 use Rattle.storage_spec.specs.Found.{front_of, storage_in}
-use Rattle.storage_report.specs.declared.loading.HeldStorage.{HeldStorage}
+use Rattle.storage_report.specs.declared.storage.HeldStorage.{HeldStorage}
 
 -- the storage that these bytes show, with them
 pub record IsShownBy (bytes : List ℕ) (h : HeldStorage) : Type 0 where

@@ -5,7 +5,9 @@
 mod loading;
 mod reading;
 mod showing;
+mod storage;
 
-pub use loading::{HeldStorage, held_storage};
+pub use loading::held_storage;
 pub use reading::{StorageRead, read};
 pub use showing::report;
+pub use storage::HeldStorage;

@@ -1,38 +1,18 @@
 // A storage in an image.
-ghost use Rattle.std.specs.Prelude.{◌≡◌, ◌<◌, ◌≤◌, ◌^◌, None, length, string_bytes, IfOk, IfErr};
-ghost use Rattle.psz_spec.specs.Layouts.{size_fault};
+ghost use Rattle.std.specs.Prelude.{◌≡◌, ◌<◌, ◌≤◌, ◌^◌, length, IfOk, IfErr};
 ghost use Rattle.storage_spec.specs.Found.{whole_pages};
-ghost use Rattle.storage_spec.specs.Told.{storage_lines as lines_by};
 ghost use Rattle.image_file.specs.Loading.{FrontStop};
 ghost use Rattle.storage_report.specs.Held.{IsShownIn, IsHeld};
 
+use crate::storage::HeldStorage;
 use command_spec::Stop;
 use image_file::load_front;
 use outside::Load;
 use std::alloc::{AllocError, Global};
-use storage_spec::Storage;
-use storage_zones::{storage_in, storage_lines};
+use storage_zones::storage_in;
 
 /// The kernel uses no more of a storage.
 const MOST: u32 = 134_217_728;
-
-/// A storage, and its bytes.
-#[derive(Drop)]
-pub struct HeldStorage {
-    pub(crate) storage: Storage,
-    pub(crate) bytes: Vec<u8>,
-    ghost faultless: { size_fault storage.sizes ≡ None },
-}
-
-impl HeldStorage {
-    /// The lines on it under this name: its sizes, whether others show the same, whether it has oopses alone, and the
-    /// zones at which the kernel's own listing fails.
-    pub fn lines(&self, alloc: Global, name: &str) -> Result<String, AllocError>
-        ensures { IfOk result (λ text. string_bytes text ≡ lines_by name.now self.now.storage self.now.bytes.items) }
-    {
-        storage_lines(alloc, name, &self.storage, &self.bytes)
-    }
-}
 
 // The whole pages at the front of bytes.
 fn whole_pages(bytes: Vec<u8>) -> Vec<u8>

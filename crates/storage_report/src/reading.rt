@@ -18,18 +18,15 @@ pub struct StorageRead {
     pub report: Report,
 }
 
-/// The report of a storage, with the functions of a map. Each zone's header is read once, each packed dump inflated
-/// once.
-#[tactic(auto, using(crate::proofs::Readings::are_of))]
-pub fn read(
+// The zones, their readings and the records.
+fn read_all(
     alloc: Global,
     storage: &Storage,
     symbols: &Symbols,
     image: &[u8],
 ) -> Result<StorageRead, AllocError>
     requires { size_fault storage.now.sizes ≡ None }
-    ensures read { IfOk result (IsRead storage.now symbols.now image.now) }
-    ensures zones { IfOk result (λ read. AreOf read.zones.items read.report) }
+    ensures { IfOk result (IsRead storage.now symbols.now image.now) }
 {
     let ZonesRead { zones, logs, parts } = read_zones(
         alloc,
@@ -41,4 +38,20 @@ pub fn read(
     let records = shown_records(alloc, &zones, symbols, held)?;
     let report = Report::of_zones(Origin::Storage, logs, parts, records);
     Ok(StorageRead { zones, report })
+}
+
+/// The report of a storage, with the functions of a map. Each zone's header is read once, each packed dump inflated
+/// once.
+pub fn read(
+    alloc: Global,
+    storage: &Storage,
+    symbols: &Symbols,
+    image: &[u8],
+) -> Result<StorageRead, AllocError>
+    requires { size_fault storage.now.sizes ≡ None }
+    ensures read { IfOk result (IsRead storage.now symbols.now image.now) }
+    ensures zones { IfOk result (λ read. AreOf read.zones.items read.report) }
+{
+    let read = read_all(alloc, storage, symbols, image)?;
+    Ok(read)
 }

@@ -1,6 +1,6 @@
 -- The image could not be read, or it is a storage, whose report follows.
 use Rattle.std.proofs.Common.{subst, Option}
-use Rattle.storage_report.specs.declared.loading.HeldStorage.{HeldStorage}
+use Rattle.storage_report.specs.declared.storage.HeldStorage.{HeldStorage}
 use Rattle.report_run.specs.Messages.{seen}
 use Rattle.report_run.specs.Storages.{IsLookedAt}
 use Rattle.report_run.proofs.StorageEnds.{unread, by_storage}
