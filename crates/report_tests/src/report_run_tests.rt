@@ -169,7 +169,11 @@ fn refusals_of_a_memory(rt: HostRuntime) -> Result<(), Fail> {
 
 #[test]
 fn logs_with_zero_bytes(rt: HostRuntime) -> Result<(), Fail> {
-    for (logs, is_log) in [(Logs::All, true), (Logs::Texts, false), (Logs::Never, false)] {
+    for (logs, is_log) in [
+        (Logs::All, true),
+        (Logs::Texts, false),
+        (Logs::Never, false),
+    ] {
         let asked = asked(Format::Text, logs, None, false);
         let mut text = Vec::new(rt.alloc());
         text.extend_from_slice(b"Kernel panic - not syncing: \0 gone\n")?;
