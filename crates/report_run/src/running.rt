@@ -21,6 +21,8 @@ const MOST: u32 = 134_217_728;
 
 /// Where files are opened.
 pub trait Images {
+    ghost use Rattle.report_run.specs.declared.plans.Wanted.{Wanted};
+
     type Image: Load + Drop;
 
     // What the file at a path holds, of which so much is wanted, where that is told.
