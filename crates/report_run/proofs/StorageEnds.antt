@@ -95,7 +95,7 @@ module _ (asked : Asked) (known : Known) (path : List ℕ) (holds given now : Op
     unread a why h = inl (record { cause = h; unput = refl; silent = refl })
 
     pub by_storage : (storage : HeldStorage) (a b : Seen) (r : Result ReportHeld Failure)
-        → IsLookedAt asked.logs holds (Some storage)
+        → IsLookedAt asked.storages holds (Some storage)
         → MatchResult r (IsStorageShown asked path storage given now a b)
         (IsStorageUnshown asked path storage given now put0 put1 a b)
         → MatchResult r (IsUnloggedReport asked known path holds given now a b)
@@ -104,7 +104,7 @@ module _ (asked : Asked) (known : Known) (path : List ℕ) (holds given now : Op
     by_storage storage a b (Err why) is h = inr (inl (record { storage = storage; held = is; cause = h }))
 
     pub by_layout : (same : Option (List ℕ)) (read1 : ℕ) (a b : Seen) (r : Result ReportHeld Failure)
-        → IsNoStorage asked.logs holds → same ≡ holds → read0 ≤ read1
+        → IsNoStorage asked.storages holds → same ≡ holds → read0 ≤ read1
         → MatchResult r (IsSoughtReport asked known path same given now a b)
         (IsNoSoughtReport asked known path same read1 read2 given now put0 put1 a b)
         → MatchResult r (IsUnloggedReport asked known path holds given now a b)
