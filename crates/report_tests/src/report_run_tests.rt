@@ -5,7 +5,7 @@ use outside::{Bytes, Calls, MemSink};
 use region_report::Report;
 use report_entry::{Image, Layouts};
 use report_run::*;
-use report_tool::{Format, known};
+use report_tool::{Format, Known, known};
 use std::alloc::Global;
 use std::test::Fail;
 
@@ -22,7 +22,7 @@ impl Images for Held {
     ghost content = { λ s _ _. Some s.bytes };
 
     fn open(&mut self, _path: &str, _wanted: Wanted) -> Result<Image, Failure> {
-        Ok(Image::new(Bytes::copy_of(self.alloc, &self.bytes)?))
+        Ok(Image::new(Bytes::copy_of(self.alloc, self.bytes.as_slice())?))
     }
 }
 
@@ -49,9 +49,30 @@ impl Watch for Unwatched {
     fn reached(&mut self, _done: u64, _all: u64) {}
 }
 
-fn asked(format: Format, logs: Logs, memory: Option<WholeMemory>, saves: bool) -> Asked {
+// What is known of the layout: a console of a page, and no other zone.
+fn one_console(alloc: Global) -> Result<Known, Fail> {
+    let mut words = Vec::new(alloc);
+    for word in [
+        "record_size=0",
+        "console_size=4096",
+        "ftrace_size=0",
+        "pmsg_size=0",
+        "ecc=0",
+    ] {
+        words.push(String::from_str(alloc, word)?)?;
+    }
+    Ok(known(&words))
+}
+
+fn asked(
+    known: Known,
+    format: Format,
+    logs: Logs,
+    memory: Option<WholeMemory>,
+    saves: bool,
+) -> Asked {
     Asked {
-        layouts: Layouts::Sought(known(&[])),
+        layouts: Layouts::Sought(known),
         format,
         lines: 10,
         map: None,
@@ -75,7 +96,7 @@ fn sink(alloc: Global) -> Result<MemSink, Fail> {
     Ok(MemSink::new(alloc, 65_536, Calls::new(alloc, &[])?)?)
 }
 
-fn done(alloc: Global, asked: &Asked, bytes: Vec<u8>) -> Result<Done, Fail> {
+fn run_on(alloc: Global, asked: &Asked, bytes: Vec<u8>) -> Result<Done, Fail> {
     let mut paths = Vec::new(alloc);
     paths.push(String::from_str(alloc, "file")?)?;
     let mut held = Held {
@@ -126,8 +147,9 @@ const WHOLE: WholeMemory = WholeMemory {
 
 #[test]
 fn a_region_of_a_memory(rt: HostRuntime) -> Result<(), Fail> {
-    let asked = asked(Format::Text, Logs::Never, Some(WHOLE), false);
-    let done = done(rt.alloc(), &asked, memory_of(rt.alloc(), &[2])?)?;
+    let known = one_console(rt.alloc())?;
+    let asked = asked(known, Format::Text, Logs::Never, Some(WHOLE), false);
+    let done = run_on(rt.alloc(), &asked, memory_of(rt.alloc(), &[2])?)?;
     let front = "file@0xa000: 4096 bytes; layout found: ";
     let is_told = begins_and_has(&done.out, front, "\nzone")?;
     assert!(rt; is_told && done.errors.is_empty() && !done.has_failed);
@@ -160,8 +182,9 @@ fn refusals_of_a_memory(rt: HostRuntime) -> Result<(), Fail> {
             "oopsreport: file: no layout explains what stands at that place; give it by --param\n",
         ),
     ] {
-        let asked = asked(format, Logs::Never, Some(whole), false);
-        let done = done(rt.alloc(), &asked, memory_of(rt.alloc(), pages)?)?;
+        let known = one_console(rt.alloc())?;
+        let asked = asked(known, format, Logs::Never, Some(whole), false);
+        let done = run_on(rt.alloc(), &asked, memory_of(rt.alloc(), pages)?)?;
         assert!(rt; done.errors.as_slice() == words.as_bytes());
         assert!(rt; done.out.is_empty() && done.has_failed);
     }
@@ -175,10 +198,10 @@ fn logs_with_zero_bytes(rt: HostRuntime) -> Result<(), Fail> {
         (Logs::Texts, false),
         (Logs::Never, false),
     ] {
-        let asked = asked(Format::Text, logs, None, false);
+        let asked = asked(known(&[]), Format::Text, logs, None, false);
         let mut text = Vec::new(rt.alloc());
         text.extend_from_slice(b"Kernel panic - not syncing: \0 gone\n")?;
-        let done = done(rt.alloc(), &asked, text)?;
+        let done = run_on(rt.alloc(), &asked, text)?;
         assert!(rt; done.has_failed != is_log);
         let has_panic = begins_and_has(&done.out, "died: Kernel panic", "console-ramoops-0\n")?;
         assert!(rt; has_panic == is_log);

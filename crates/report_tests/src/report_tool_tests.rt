@@ -60,7 +60,7 @@ fn each_format(rt: HostRuntime) -> Result<(), Fail> {
         (
             Format::Json,
             "{\"death\":null,\"end\":{\"ending\":\"broken_off\",\"line\":\"a<\",\"reason\":null,\"record\":\"console-ramoops-0\"},\
-\"machine\":null,\"parameters\":{\"block_size\":128,",
+\"machine\":{\"cmdline\":null,\"hardware\":null,\"modules\":null,\"version\":null},\"parameters\":{\"block_size\":128,",
             "\"text\":\"a<\\n\"",
         ),
         (

@@ -15,16 +15,16 @@ pub returns : goal.returns
 returns c =
     let values = map view c.in_ok-zone_list.zone_list.items in
     let held = c.args.report.now in
-    let data = record_data held.origin (saved held.logs) in
-    let records : map view c.in_ok-record_list.record_list.items ≡ map data held.records =
+    let shown = record_data held.origin (saved held.logs) in
+    let records : map view c.in_ok-record_list.record_list.items ≡ map shown held.records =
     c.in_ok-record_list.ensures
     ∙ ap (λ (o : Origin). map (record_data o (saved c.logs.result.now)) c.records.result.now) c.origin.ensures
     ∙ ap (λ (l : SavedLogs). map (record_data held.origin (saved l)) c.records.result.now) c.logs.ensures
-    ∙ ap (map data) c.records.ensures in
+    ∙ ap (map shown) c.records.ensures in
     let parameters = division_data c.args.division.now in
     let answers : Answers = answers_by held (death_told held.records) in
     let line : view c.in_ok-value.value ≡ line_with answers c.args.path.now parameters
-    (array (items_of (map data held.records))) (array (items_of values)) =
+    (array (items_of (map shown held.records))) (array (items_of values)) =
     c.in_ok-value.ensures
     ∙ ap (λ (a : Answers). line_with a c.args.path.now (view c.in_ok-parameters.parameters)
     (view c.from-records.result) (view c.from-zones.result)) c.in_ok-answer.ensures
@@ -33,7 +33,7 @@ returns c =
     ∙ ap (λ r. line_with answers c.args.path.now parameters r (view c.from-zones.result))
     (c.from-records.ensures ∙ ap (λ (ds : List Data). array (items_of ds)) records)
     ∙ ap (line_with answers c.args.path.now parameters
-    (array (items_of (map data held.records)))) c.from-zones.ensures in
+    (array (items_of (map shown held.records)))) c.from-zones.ensures in
     if_both c.to_string.result _ _ _ (λ text order compact. record {
       values = values;
       each_zone = subst (λ (ps : List PartStates). AreZones c.args.zones.now held.logs.readings ps
