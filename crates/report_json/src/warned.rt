@@ -61,5 +61,5 @@ pub fn warnings_value(
 {
     let warnings = warnings_by(alloc, report, told)?;
     let values = warning_values(alloc, report.origin(), warnings.as_slice())?;
-    Ok(Value::Array(values))
+    Ok(Value::from(values))
 }
