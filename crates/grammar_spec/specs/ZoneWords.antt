@@ -11,6 +11,7 @@ use Rattle.zone_spec.specs.Layout.{rounded}
 use Rattle.zone_spec.specs.Orders.{order_text}
 use Rattle.grammar_spec.specs.declared.faults.ParamFault.{ParamFault}
 use Rattle.grammar_spec.specs.Words.{KeyTable, ok_unless, texts, first_fault as first_fault_by, given as given_by}
+use Rattle.zone_spec.specs.declared.params.ByteOrder.TheVariants.{Little}
 
 -- the keys, with the prefix of a kernel's command line
 abbrev pub keys : KeyTable
@@ -62,6 +63,7 @@ defaults = record {
   ecc_ftrace = 0;
   ecc_pmsg = 0;
   order = FtracePmsg;
+  byte_order = Little;
 }
 
 -- the bytes of parity that the words give a key

@@ -12,7 +12,7 @@ use Rattle.store_steps.specs.Machine.{IsKept}
 use Rattle.oopsbox_c.specs.Flights.{CanBeWritten}
 
 pub written : (s : Steps) (z : Zone) (k : CallKind) (image line payload : List ℕ) → s.zone ≡ z → s.kind ≡ k
-    → standing_words image ≡ s.words → (standing_words image).sig ≡ z.sig → IsKept (flying s line payload)
+    → standing_words z image ≡ s.words → (standing_words z image).sig ≡ z.sig → IsKept (flying s line payload)
     → CanBeWritten z (call_of k line payload) image
 written s z k image line payload ez ek words sig kept = record {
   sig = sig;

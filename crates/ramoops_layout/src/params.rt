@@ -8,7 +8,7 @@ ghost use Rattle.grammar_spec.specs.ZoneWords.{with_sizes, with_parities, with_o
 use crate::Keys;
 use crate::rows::{MOST_MEMORY, rounded};
 use grammar_spec::ParamFault;
-use zone_spec::{Order, Params};
+use zone_spec::{ByteOrder, Order, Params};
 
 const KEYS: Keys = Keys {
     prefix: "ramoops.",
@@ -48,6 +48,7 @@ pub const DEFAULTS: Params = Params {
     ecc_ftrace: 0,
     ecc_pmsg: 0,
     order: Order::FtracePmsg,
+    byte_order: ByteOrder::Little,
 };
 
 // The number that the words give a key.

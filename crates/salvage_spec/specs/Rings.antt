@@ -46,15 +46,15 @@ is_ring_of z w = (w.sig == z.sig) && nat_le w.start w.size && nat_le w.size z.ca
 -- a header's word is a ring by its nearest codeword, where it has one with such words
 pub record IsRingBy (z : Zone) (word c : List ℕ) : Type 0 where
   pub nearest : nearest z.parity word ≡ Some c
-  pub words : IsRingOf z (words_in c)
+  pub words : IsRingOf z (words_in z.byte_order c)
 
 -- the ring of a codeword
 abbrev pub ring_of : Zone → ℕ → List ℕ → List ℕ → FoundRing
-ring_of z at word c = record { at = at; zone = z.name; words = words_in c; corrected = distance word c }
+ring_of z at word c = record { at = at; zone = z.name; words = words_in z.byte_order c; corrected = distance word c }
 
 abbrev pub found_by : Zone → ℕ → List ℕ → Option (List ℕ) → Option FoundRing
 found_by z at word None = None
-found_by z at word (Some c) = if is_ring_of z (words_in c) then Some (ring_of z at word c) else None
+found_by z at word (Some c) = if is_ring_of z (words_in z.byte_order c) then Some (ring_of z at word c) else None
 
 -- the ring of a header's word, where it is one
 unfoldable pub ring_in : Zone → ℕ → List ℕ → Option FoundRing

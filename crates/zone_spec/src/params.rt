@@ -1,7 +1,8 @@
 // The parameters of a layout, and the causes for which there is none.
-ghost use Rattle.std.specs.Prelude.{◌≡◌};
+ghost use Rattle.std.specs.Prelude.{◌≡◌, length};
 ghost use Rattle.zone_spec.specs.LayoutFaults.{fault_number};
 ghost use Rattle.zone_spec.specs.Orders.{order_text, byte_order_text};
+ghost use Rattle.zone_spec.specs.WordBytes.{turned, word_of, word_bytes};
 
 use crate::Kind;
 use thiserror::Error;
@@ -44,6 +45,30 @@ impl ByteOrder {
         match self {
             ByteOrder::Little => "little",
             ByteOrder::Big => "big",
+        }
+    }
+
+    /// The word that four bytes are.
+    pub fn word(self, bytes: &[u8]) -> u32
+        requires { length bytes.now ≡ 4 }
+        ensures { result ≡ word_of self bytes.now }
+    {
+        self.turned(u32::from_le_bytes([bytes[0], bytes[1], bytes[2], bytes[3]]))
+    }
+
+    /// The four bytes of a word, as they stand.
+    pub fn bytes(self, word: u32) -> [u8; 4]
+        ensures { result ≡ word_bytes self word }
+    {
+        self.turned(word).to_le_bytes()
+    }
+
+    fn turned(self, word: u32) -> u32
+        ensures { result ≡ turned self word }
+    {
+        match self {
+            ByteOrder::Little => word,
+            ByteOrder::Big => word.swap_bytes(),
         }
     }
 }

@@ -6,7 +6,7 @@ use prz_region::{Probe, Region, RingWords, Spans};
 use ramoops_layout::{Params, layout};
 use std::process::Abort;
 use std::test::Fail;
-use zone_spec::{Kind, Order, Words, Zone, ZoneName};
+use zone_spec::{ByteOrder, Kind, Order, Words, Zone, ZoneName};
 
 fn zone(index: u32, at: u32, size: u32) -> Zone
     ensures at { result.at ≡ at }
@@ -44,6 +44,7 @@ fn params() -> Params {
         ecc_ftrace: 0,
         ecc_pmsg: 0,
         order: Order::FtracePmsg,
+        byte_order: ByteOrder::Little,
     }
 }
 

@@ -8,7 +8,7 @@ use prz_region::{Region, RingWords, Spans};
 use prz_write::{Call, CallKind, Flight, Line36, Step};
 use ramoops_layout::layout;
 use std::process::Abort;
-use zone_spec::{Kind, Order, Params, Words, Zone, ZoneName};
+use zone_spec::{ByteOrder, Kind, Order, Params, Words, Zone, ZoneName};
 
 const SIG: u32 = 0x4347_4244;
 
@@ -53,6 +53,7 @@ fn signed_spans(rt: &(impl Abort + AllocGlobal)) -> Spans {
         ecc_ftrace: 0,
         ecc_pmsg: 0,
         order: Order::FtracePmsg,
+        byte_order: ByteOrder::Little,
     };
     let layout = match layout(rt.alloc(), &params) {
         Ok(layout) => layout,
