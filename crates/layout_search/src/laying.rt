@@ -27,6 +27,7 @@ pub fn params(c: &Candidate) -> Params
         ecc_ftrace: c.parity,
         ecc_pmsg: c.parity,
         order: c.order,
+        byte_order: c.byte_order,
     }
 }
 

@@ -38,6 +38,7 @@ fn first_zone(c: &Candidate, size: u64) -> Zone
         parity: parity as u32,
         sig: 0x43474244,
         block: 128,
+        byte_order: c.byte_order,
     }
 }
 

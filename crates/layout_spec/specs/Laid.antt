@@ -23,6 +23,7 @@ params_of c = record {
   ecc_ftrace = c.parity;
   ecc_pmsg = c.parity;
   order = c.order;
+  byte_order = c.byte_order;
 }
 
 abbrev pub rows_of : Candidate → List Row

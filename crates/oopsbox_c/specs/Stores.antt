@@ -5,7 +5,7 @@ use Rattle.std.proofs.Common.{w32}
 use Rattle.zone_spec.specs.Stores.{Store, byte_stores}
 use Rattle.oopsbox_c.specs.declared.stores.StoreRow.{StoreRow}
 use Rattle.oopsbox_c.specs.declared.stores.Stores.{Stores}
-use Rattle.zone_spec.specs.WordBytes.{word_bytes}
+use Rattle.std.specs.Int.{to_le_bytes}
 
 -- four bytes at once, or a byte for each of the run
 abbrev pub row_stores : StoreRow → List ℕ → List ℕ → List Store
@@ -24,7 +24,7 @@ stores_in s line payload = flat_map (λ (row : StoreRow). row_stores row line pa
 pub record IsRowInside (size : ℕ) (s : StoreRow) (line payload : List ℕ) : Type 0 where
   pub what : s.what ≤ 3
   pub place : s.place + s.len ≤ size
-  pub word : s.what ≡ 0 → (s.len ≡ 4) × (take 4 s.bytes ≡ word_bytes z.byte_order s.word)
+  pub word : s.what ≡ 0 → (s.len ≡ 4) × (take 4 s.bytes ≡ to_le_bytes w32 s.word)
   pub line_end : s.what ≡ 1 → s.from + s.len ≤ length line
   pub payload_end : s.what ≡ 2 → s.from + s.len ≤ length payload
   pub bytes_end : s.what ≡ 3 → s.len ≤ length s.bytes

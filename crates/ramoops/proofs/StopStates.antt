@@ -43,7 +43,7 @@ header_at : (z : Zone) (x : List ℕ) → 12 ≤ length x → words_in z.byte_or
 unfolding part_bytes
 header_at z x long =
     let n : length (part_bytes z x Header) ≡ 12 = length-slice_range x 0 12 long in
-    words_same _ _ (λ i h. word_left z x Header i (omega (arith, n, h))
+    words_same _ _ _ (λ i h. word_left z x Header i (omega (arith, n, h))
     ∙ sym (get_or-slice_range x 0 12 i (omega (arith, h))))
 
 -- a flight's cut shows what the flight tells
@@ -54,7 +54,7 @@ module _ (z : Zone) (bytes : List ℕ) (seen : Flying) (f : Flight) (long : 12 �
       let b = length-after_stores f.image s.image.underway.done in omega (arith, a, b, long))
 
   words : seen.words ≡ words_in z.byte_order (part_word z f.image Header)
-  words = sym s.image.words ∙ sym (header_at z f.image before_long)
+  words = sym s.image.words ∙ ap (λ (y : Zone). standing_words y f.image) s.zone ∙ sym (header_at z f.image before_long)
 
   stages : {X : Type 0} (P : Zone → List Stage → X) → P seen.zone (call_stages seen.zone seen.words seen.call)
       ≡ P z (call_stages z (words_in z.byte_order (part_word z f.image Header)) f.call)

@@ -18,4 +18,4 @@ pub use laying::{layout, list_zones};
 pub use numbers::number;
 pub use params::{DEFAULTS, given, order_at, parity_given, read_words, read_words_over};
 pub use words::Keys;
-pub use zone_spec::{Kind, LayoutFault, Order, Params, Zone, ZoneName};
+pub use zone_spec::{ByteOrder, Kind, LayoutFault, Order, Params, Zone, ZoneName};

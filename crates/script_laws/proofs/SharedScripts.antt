@@ -171,8 +171,8 @@ module _ (h : History) (can : CanShare h.zone (zone_bytes h.zone h.image)) where
         whole = log_left h can;
         torn = λ i place e free. ap (λ (bytes : List ℕ). slice_index (zone_reading h.zone bytes).log i) is
             ∙ log_differs_at_open_calls h.zone (zone_bytes h.zone h.image) h.operations can i place
-            (subst (λ (bytes : List ℕ). slice_get (log_places (standing_words z bytes).start
-            (standing_words z bytes).size) i ≡ Some place) is e) free;
+            (subst (λ (bytes : List ℕ). slice_get (log_places (standing_words h.zone bytes).start
+            (standing_words h.zone bytes).size) i ≡ Some place) is e) free;
         before = ap₂ take front-long (append_assoc front (shared_zone h).image back)
             ∙ take-append_seam front ((shared_zone h).image ++ back);
         behind = ap (λ n. drop n (image_left h)) both-long

@@ -24,7 +24,7 @@ use Rattle.shared_laws.proofs.OpenCalls.{open_calls_are_shown}
 use Rattle.shared_laws.proofs.Laws.{held_by_places_law}
 use Rattle.shared_ring.specs.declared.seats.Seat.{Seat}
 use Rattle.shared_ring.specs.Seats.{is_of, call_of, shown_seat, way_round, held_since}
-use Rattle.shared_ring.specs.Seen.{SharedSeen, words_seen, StandsFor}
+use Rattle.shared_ring.specs.Seen.{SharedSeen, bytes_of, words_seen, StandsFor}
 use Rattle.shared_ring.proofs.Tickets.{AreRising, are_rising}
 
 -- ---- finding a ticket

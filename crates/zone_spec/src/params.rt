@@ -63,7 +63,8 @@ impl ByteOrder {
         self.turned(word).to_le_bytes()
     }
 
-    fn turned(self, word: u32) -> u32
+    /// The number that a little-endian machine finds where one of this order stored the word, and the other way round.
+    pub fn turned(self, word: u32) -> u32
         ensures { result ≡ turned self word }
     {
         match self {

@@ -428,6 +428,7 @@ fn is_kept(
         parity: 0,
         sig: 0x4347_4244,
         block: 128,
+        byte_order: ByteOrder::Little,
     };
     let words = Words {
         sig: 0x4347_4244,

@@ -24,6 +24,7 @@ fn zone(index: u32, at: u32, size: u32) -> Zone
         parity: 0,
         sig: 0,
         block: 128,
+        byte_order: ByteOrder::Little,
     }
 }
 

@@ -33,6 +33,7 @@ fn zone(rt: &impl Abort, parity: u32) -> Zone
         parity,
         sig: SIG,
         block: 128,
+        byte_order: ByteOrder::Little,
     }
 }
 
