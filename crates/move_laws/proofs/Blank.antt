@@ -75,7 +75,6 @@ abbrev no_words : Words
 no_words = record { sig = 0; start = 0; size = 0 }
 
 no_words_in : (order : ByteOrder) → words_in order (replicate 12 0) ≡ no_words
-unfolding turned
 no_words_in Little = refl
 no_words_in Big = refl
 

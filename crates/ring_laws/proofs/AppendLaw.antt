@@ -2,13 +2,14 @@
 use Rattle.std.proofs.Common.{◌≡◌, ℕ, ◌+◌, ◌-◌, ◌%◌, ◌^◌, ◌<◌, ◌≤◌, min, Bool, true, false, cond, ◌==◌, List, [], ◌∷◌}
 use Rattle.std.proofs.Common.{◌++◌, length, take, drop, get_or, slice_range, refl, sym, ap, ◌∙◌, arith, get_or-drop}
 use Rattle.std.proofs.Common.{get_or-take, w32}
+use Rattle.std.specs.Int.{from_le_bytes}
 use Rattle.zone_spec.specs.declared.Zone.{Zone}
 use Rattle.zone_spec.specs.declared.params.ByteOrder.{ByteOrder}
 use Rattle.zone_spec.specs.Stages.{Stage, StartWord, SizeWord, stage_stores, stores_in_turn}
 use Rattle.zone_spec.specs.Stores.{put, after_stores}
 use Rattle.word_laws.proofs.WordBytes.{word_of-word_bytes}
 use Rattle.ring_laws.proofs.Images.{after_stores-append, length-after_stores}
-use Rattle.zone_spec.specs.WordBytes.{word_bytes, word_of}
+use Rattle.zone_spec.specs.WordBytes.{turned, word_bytes, word_of}
 
 -- ---- stages
 
@@ -65,12 +66,12 @@ start_last z x n = refl
 
 pub word_of-bytes : (order : ByteOrder) (xs ys : List ℕ) → ((i : ℕ) → i < 4 → get_or xs i 0 ≡ get_or ys i 0)
     → word_of order xs ≡ word_of order ys
-word_of-bytes order xs ys h =
+word_of-bytes order xs ys h = ap (turned order) (
     let e0 : get_or xs 0 0 ≡ get_or ys 0 0 = h 0 (omega arith) in
     let e1 : get_or xs 1 0 ≡ get_or ys 1 0 = h 1 (omega arith) in
     let e2 : get_or xs 2 0 ≡ get_or ys 2 0 = h 2 (omega arith) in
     let e3 : get_or xs 3 0 ≡ get_or ys 3 0 = h 3 (omega arith) in
-    cc
+    let same : from_le_bytes w32 xs ≡ from_le_bytes w32 ys = cc in same)
 
 -- a byte of the header's word at this place
 get_or-word : (image : List ℕ) (at i : ℕ) → at + 4 ≤ 12 → i < 4

@@ -268,7 +268,6 @@ append_zeros (b ∷ v) w hv hw (suc k) l = append_zeros v w (λ j m. hv (suc j) 
 
 -- zeros are zero words, in either order
 no_words_in : (order : ByteOrder) → words_in order (replicate 12 0) ≡ record { sig = 0; start = 0; size = 0 }
-unfolding turned
 no_words_in Little = refl
 no_words_in Big = refl
 

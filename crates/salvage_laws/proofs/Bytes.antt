@@ -39,7 +39,6 @@ if_known b = if b then Some 0 else None
 agrees_of : (order : ByteOrder) (top a b c d : ℕ) (ks : List (Option ℕ)) (w : List ℕ) → top < 16777216 → a < 256
     → b < 256 → c < 256 → d < 256 → word_of order (a ∷ b ∷ c ∷ d ∷ []) ≤ top → Agrees ks w
     → Agrees (known_of order top ++ ks) (a ∷ b ∷ c ∷ d ∷ w)
-unfolding turned
 agrees_of Little top a b c d ks w small la lb lc ld le h = by (nat_lt top 65536) refl
   where
     by : (t : Bool) → nat_lt top 65536 ≡ t

@@ -30,13 +30,11 @@ turned-sum a b c d m ha hb hc hd e =
 
 -- a word that fits its four bytes fits them turned
 pub turned_small : (order : ByteOrder) (n : ℕ) → n < 2 ^ 32 → turned order n < 2 ^ 32
-unfolding turned
 turned_small Little n h = h
 turned_small Big n h = omega arith
 
 -- turned twice, it is the word again
 pub turned_twice : (order : ByteOrder) (n : ℕ) → n < 2 ^ 32 → turned order (turned order n) ≡ n
-unfolding turned
 turned_twice Little n h = refl
 turned_twice Big n h =
     turned-sum (n % 256) (n / 256 % 256) (n / 65536 % 256) (n / 16777216 % 256) (swap_bytes w32 n) (omega arith)
@@ -64,19 +62,16 @@ word_bytes-word_of order xs l h =
 
 -- the word 0 is four bytes 0 in either order
 pub turned_zero : (order : ByteOrder) → turned order 0 ≡ 0
-unfolding turned
 turned_zero Little = refl
 turned_zero Big = refl
 
 -- big-endian bytes
 pub big_bytes : (n : ℕ) → word_bytes Big n ≡ to_be_bytes w32 n
-unfolding turned
 big_bytes n = le_bytes_4 (to_be_bytes w32 n) (swap_bytes w32 n) refl
     (each-small (n / 16777216 % 256) (n / 65536 % 256) (n / 256 % 256) (n % 256) (omega arith) (omega arith)
     (omega arith) (omega arith)) (omega arith)
 
 pub big_word : (xs : List ℕ) → ((i : ℕ) → get_or xs i 0 < 256) → word_of Big xs ≡ from_be_bytes w32 xs
-unfolding turned
 big_word xs h =
     turned-sum (get_or xs 3 0) (get_or xs 2 0) (get_or xs 1 0) (get_or xs 0 0) (from_le_bytes w32 xs) (h 3) (h 2) (h 1)
     (h 0) (omega arith)

@@ -6,7 +6,7 @@ use Rattle.zone_spec.specs.declared.params.ByteOrder.{ByteOrder}
 use Rattle.zone_spec.specs.declared.params.ByteOrder.TheVariants.{Little, Big}
 
 -- the number that a little-endian machine finds where one of this order stored the number n
-unfoldable pub turned : ByteOrder → ℕ → ℕ
+abbrev pub turned : ByteOrder → ℕ → ℕ
 turned Little n = n
 turned Big n = swap_bytes w32 n
 

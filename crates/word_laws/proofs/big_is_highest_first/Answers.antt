@@ -5,7 +5,6 @@ use Rattle.word_laws.proofs.WordBytes.{big_bytes, big_word}
 use Rattle.word_laws.proofs.big_is_highest_first.Goals as goal
 
 pub returns : goal.returns
-unfolding turned
 returns c = record {
   stored = big_bytes;
   read = λ bytes four each. big_word bytes each;

@@ -4,9 +4,7 @@ use Rattle.zone_spec.specs.WordBytes.{turned}
 use Rattle.zone_spec.proofs.params.ByteOrder.turned.Goals as goal
 
 pub returns-in-Little : goal.returns-in-Little
-unfolding turned
 returns-in-Little c = search
 
 pub returns-in-Big : goal.returns-in-Big
-unfolding turned
 returns-in-Big c = c.swap_bytes.ensures ∙ ap (λ order. turned order c.args.word) (sym c.in-Big.is)
