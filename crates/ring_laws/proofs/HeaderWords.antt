@@ -7,7 +7,7 @@ use Rattle.zone_spec.specs.declared.params.ByteOrder.{ByteOrder}
 use Rattle.zone_spec.specs.declared.Words.{Words}
 use Rattle.zone_spec.specs.Zones.{IsValidZone}
 use Rattle.zone_spec.specs.Parts.{Header, part_bytes, part_word, part_parity_at, words_in, standing_words, IsImage}
-use Rattle.ring_laws.proofs.AppendLaw.{from_le_bytes-same}
+use Rattle.ring_laws.proofs.AppendLaw.{word_of-bytes}
 use Rattle.ring_laws.proofs.PartsLaw.{part_fits}
 use Rattle.ring_laws.proofs.Fixes.{word_left}
 use Rattle.zone_spec.specs.WordBytes.{word_of}
