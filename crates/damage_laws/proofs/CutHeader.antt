@@ -155,8 +155,8 @@ module _ (z : Zone) where
   stage_part (StartWord n) x (suc k) l = absurd (omega arith)
   stage_part (SizeWord n) x zero l = refl
   stage_part (SizeWord n) x (suc k) l = absurd (omega arith)
-  stage_part (Run place bytes) x k l = behind-words (12 + place) bytes k x (omega arith)
-  stage_part (ParityOf part) x k l = behind-words (part_parity_at z part) (parity_of z.parity (part_bytes z x part))
+  stage_part (Run place bytes) x k l = behind-words z (12 + place) bytes k x (omega arith)
+  stage_part (ParityOf part) x k l = behind-words z (part_parity_at z part) (parity_of z.parity (part_bytes z x part))
       k x (behind_parity z part)
 
   words_after-cons : (w : Words) (g : Stage) (hs : List Stage)

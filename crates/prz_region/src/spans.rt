@@ -16,7 +16,7 @@ use outside::Bytes;
 use ramoops_layout::types::Layout;
 use std::alloc::{AllocError, Global};
 use std::marker::Model;
-use zone_spec::Zone;
+use zone_spec::{ByteOrder, Zone};
 
 /// A zone's bytes in a region's block, as they are lent for reading.
 #[repr(C)]
