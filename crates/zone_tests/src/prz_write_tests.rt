@@ -83,12 +83,12 @@ fn put_word(rt: &impl Abort, spans: &mut Spans, i: u32, at: u32, word: u32)
     requires { at ≤ 8 }
 {
     has_span(rt, spans, i);
-    spans.store_word(i, at, word);
+    spans.store_word(i, at, ByteOrder::Little, word);
 }
 
 fn words(rt: &impl Abort, spans: &Spans, i: u32) -> (u32, u32, u32) {
     has_span(rt, spans, i);
-    let words = Words::read(&spans.all()[i as usize]);
+    let words = Words::read(ByteOrder::Little, &spans.all()[i as usize]);
     (words.sig, words.start, words.size)
 }
 
@@ -110,7 +110,7 @@ fn begin(rt: &impl Abort, zone: Zone, spans: &Spans, i: u32, call: Call) -> Flig
 {
     has_span(rt, spans, i);
     let span = &spans.all()[i as usize];
-    let words = Words::read(span);
+    let words = Words::read(zone.byte_order, span);
     assert!(rt; words.is_ring(zone.cap));
     assert!(rt; words.start < zone.cap);
     assert!(rt; words.size == zone.cap || words.start == words.size);
