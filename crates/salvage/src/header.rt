@@ -40,25 +40,23 @@ pub fn known_bytes(zone: &Zone) -> [Option<u8>; 12]
     let order = zone.byte_order;
     let sig = order.bytes(zone.sig);
     let third = zero_where(zone.cap < 65536);
-    let word = [
-        known_by(order, None, Some(0)),
-        known_by(order, None, third),
-        known_by(order, third, None),
-        known_by(order, Some(0), None),
-    ];
+    let a = known_by(order, None, Some(0));
+    let b = known_by(order, None, third);
+    let c = known_by(order, third, None);
+    let d = known_by(order, Some(0), None);
     [
         Some(sig[0]),
         Some(sig[1]),
         Some(sig[2]),
         Some(sig[3]),
-        word[0],
-        word[1],
-        word[2],
-        word[3],
-        word[0],
-        word[1],
-        word[2],
-        word[3],
+        a,
+        b,
+        c,
+        d,
+        a,
+        b,
+        c,
+        d,
     ]
 }
 

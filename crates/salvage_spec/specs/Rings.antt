@@ -8,6 +8,7 @@ use Rattle.zone_spec.specs.declared.Zone.{Zone}
 use Rattle.zone_spec.specs.declared.ZoneName.{ZoneName}
 use Rattle.zone_spec.specs.declared.Words.{Words}
 use Rattle.code_spec.specs.Code.{distance, nearest}
+use Rattle.zone_spec.specs.Orders.{is_same_order}
 use Rattle.zone_spec.specs.Layouts.{zone_place}
 use Rattle.zone_spec.specs.Parts.{Header, part_word, words_in}
 use Rattle.zone_spec.specs.Reading.{IsRing, ZoneReading, zone_reading}
@@ -18,7 +19,7 @@ use Rattle.salvage_spec.specs.declared.RingFault.TheVariants.{NoZone, NoRing}
 -- whether two zones have one shape: they differ at most in name and place
 abbrev pub is_alike : Zone → Zone → Bool
 is_alike x z = (x.size == z.size) && (x.cap == z.cap) && (x.blocks == z.blocks) && (x.parity == z.parity)
-    && (x.block == z.block) && (x.sig == z.sig)
+    && (x.block == z.block) && (x.sig == z.sig) && is_same_order x.byte_order z.byte_order
 
 -- the shapes of these zones, each by its first zone
 unfoldable pub shapes : List Zone → List Zone
