@@ -423,7 +423,7 @@ struct oopsbox_report_answer {
  * On all of these the rest of text is as it was.
  *
  * OOPSBOX_FAULT: *answer tells the fault (a word's: 1 unknown key, 2 twice, 3 no number; else word is 0: the layout's,
- * or 101 to 105, where block_size, ecc_dump, ecc_console, ecc_ftrace or ecc_pmsg is given without mem_size).
+ * or 101 to 106, where block_size, ecc_dump, ecc_console, ecc_ftrace, ecc_pmsg or byte_order is given without mem_size).
  * OOPSBOX_SHORT: the image has fewer bytes than answer->needed.
  * OOPSBOX_TREE: answer->fault is 1 to 13: the tree is broken; 14: it has no ramoops node; 15: it has several; 16: a word
  * cpus is wanted, since there is an ftrace zone for each processor. docs/MESSAGES.md lists them. On these three text is
