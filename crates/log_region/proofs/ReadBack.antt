@@ -114,21 +114,21 @@ module _ (a b : ℕ) (xs zs : List ℕ) where
       let signature : (standing_words z front).sig ≡ a = ap (λ (w : Words). w.sig) same ∙ sig_is few_a in
       let start : (standing_words z front).start ≡ b = ap (λ (w : Words). w.start) same ∙ start_is few_b in
       let size : (standing_words z front).size ≡ b = ap (λ (w : Words). w.size) same ∙ size_is few_b in record {
-    ring = (omega (arith, start, size), omega (arith, size, room));
-    signed = signature ∙ sym sig;
-    told_length = size ∙ sym len;
-    bytes = places (standing_words z front).start (standing_words z front).size start size;
-    is_open = open_at z.name.kind (standing_words z front) z.cap (omega (arith, start, room)) (λ h. start ∙ sym size);
-    header = plain_stands z front Header plain;
-    blocks = λ k h. plain_stands z front (Block k) plain;
-  } where
-    places : (s n : ℕ) → s ≡ b → n ≡ b → map (λ place. get_or front (12 + place) 0) (log_places s n) ≡ xs
-    places s n es en =
-        let none : b - b ≡ 0 = omega arith in
-        ap (λ m. map (λ place. get_or front (12 + place) 0) (log_places m n)) es
-        ∙ ap (λ m. map (λ place. get_or front (12 + place) 0) (log_places b m)) en
-        ∙ ap (λ m. map (λ place. get_or front (12 + place) 0) (range_with_len b m ++ range_with_len 0 b)) none
-        ∙ items xs front b len (λ i h. log_byte i (omega (arith, h, len)))
+        ring = (omega (arith, start, size), omega (arith, size, room));
+        signed = signature ∙ sym sig;
+        told_length = size ∙ sym len;
+        bytes = places (standing_words z front).start (standing_words z front).size start size;
+        is_open = open_at z.name.kind (standing_words z front) z.cap (omega (arith, start, room)) (λ h. start ∙ sym size);
+        header = plain_stands z front Header plain;
+        blocks = λ k h. plain_stands z front (Block k) plain;
+      } where
+        places : (s n : ℕ) → s ≡ b → n ≡ b → map (λ place. get_or front (12 + place) 0) (log_places s n) ≡ xs
+        places s n es en =
+            let none : b - b ≡ 0 = omega arith in
+            ap (λ m. map (λ place. get_or front (12 + place) 0) (log_places m n)) es
+            ∙ ap (λ m. map (λ place. get_or front (12 + place) 0) (log_places b m)) en
+            ∙ ap (λ m. map (λ place. get_or front (12 + place) 0) (range_with_len b m ++ range_with_len 0 b)) none
+            ∙ items xs front b len (λ i h. log_byte i (omega (arith, h, len)))
 
 pub logs_read : (log : List ℕ) → IsReadBack log
 unfolding region_of

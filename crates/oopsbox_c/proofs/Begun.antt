@@ -17,9 +17,9 @@ pub written : (s : Steps) (z : Zone) (k : CallKind) (image line payload : List �
 written s z k image line payload ez ek stood sig kept =
     let words : standing_words z image ≡ s.words = subst (λ (x : Zone). standing_words x image ≡ s.words) ez stood in
     record {
-  sig = sig;
-  ring = subst (λ (w : Words). IsRing w z.cap) (sym words) (subst (λ (x : Zone). IsRing s.words x.cap) ez kept.ring);
-  is_open = subst (λ (w : Words). IsOpenFor (call_of k line payload) w z.cap) (sym words)
-      (subst (λ (x : Zone). IsOpenFor (call_of k line payload) s.words x.cap) ez
-      (subst (λ (k : CallKind). IsOpenFor (call_of k line payload) s.words s.zone.cap) ek kept.is_open));
-}
+      sig = sig;
+      ring = subst (λ (w : Words). IsRing w z.cap) (sym words) (subst (λ (x : Zone). IsRing s.words x.cap) ez kept.ring);
+      is_open = subst (λ (w : Words). IsOpenFor (call_of k line payload) w z.cap) (sym words)
+          (subst (λ (x : Zone). IsOpenFor (call_of k line payload) s.words x.cap) ez
+          (subst (λ (k : CallKind). IsOpenFor (call_of k line payload) s.words s.zone.cap) ek kept.is_open));
+    }

@@ -5,8 +5,8 @@ ghost use Rattle.grammar_spec.specs.Words.{texts};
 ghost use Rattle.grammar_spec.specs.ZoneWords.{given, parity_of, parity_given, memory_of, params_by, read_by, read_of};
 ghost use Rattle.grammar_spec.specs.ZoneWords.{with_sizes, with_parities, with_order, order_at as order_of, byte_order_at as byte_order_of};
 
-use crate::{Choice, Keys};
 use crate::rows::{MOST_MEMORY, rounded};
+use crate::{Choice, Keys};
 use grammar_spec::ParamFault;
 use zone_spec::{ByteOrder, Order, Params};
 

@@ -131,8 +131,14 @@ are_known z =
       low sig,
       (
         low (sig / 256),
-        (low (sig / 65536), (low (sig / 16777216), of z.byte_order z.cap (known_of z.byte_order z.cap)
-        (of z.byte_order z.cap [] tt))),
+        (
+          low (sig / 65536),
+          (
+            low (sig / 16777216),
+            of z.byte_order z.cap (known_of z.byte_order z.cap)
+                (of z.byte_order z.cap [] tt),
+          ),
+        ),
       ),
     )
   where

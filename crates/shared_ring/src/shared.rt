@@ -157,8 +157,9 @@ impl Shared {
         let len = payload.len() as u32;
         let cap = self.zone.cap;
         let start = (words.start + len) % cap;
+        let order = self.zone.byte_order;
         self.spans
-            .store_pair(self.place, 4, self.zone.byte_order, start, cap.min(words.size + len));
+            .store_pair(self.place, 4, order, start, cap.min(words.size + len));
         let ticket = self.reserved;
         self.reserved += 1;
         self.seats.push_reserved(Seat {

@@ -152,7 +152,10 @@ fn words_give_numbers(rt: HostRuntime) {
         assert!(rt; PREFIXED.given(&words, key) == number, "of {key}");
     }
     assert!(rt; PLAIN.given(&words, "ecc") == None);
-    let words = split_words(rt.alloc(), "ecc=2 side=right end=lower").expect(&rt, "there is memory");
+    let words = split_words(rt.alloc(), "ecc=2 side=right end=lower").expect(
+        &rt,
+        "there is memory",
+    );
     assert!(rt; PREFIXED.given(&words, "side") == Some(1));
     assert!(rt; PREFIXED.given(&words, "end") == Some(1));
 }

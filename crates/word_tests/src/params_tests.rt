@@ -136,7 +136,10 @@ fn words_are_of_the_byte_order_given(rt: HostRuntime) {
     }
     for order in ["byte_order=BIG", "byte_order=1", "byte_order="] {
         let line = format!(in rt.alloc(); "mem_size=16384 {order}").expect(&rt, "there is memory");
-        assert!(rt; layout_fault_of(rt.alloc(), line.as_str()) == Ok(98), "by {order}");
+        assert!(rt;
+            layout_fault_of(rt.alloc(), line.as_str()) == Ok(98),
+            "by {order}"
+        );
     }
 }
 
