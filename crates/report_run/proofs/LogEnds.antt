@@ -1,5 +1,5 @@
 -- An image that may be a text log: what a look at it tells, and how its report ends. For `held_log` and
--- `unknown_report`.
+-- `plain_report`.
 use Rattle.std.proofs.Common.{◌≡◌, ◌≤◌, ◌∙◌, ℕ, Bool, true, false, List, Option, Some, None, take, refl, sym, subst}
 use Rattle.std.proofs.Common.{inl, inr, drop, length, ◌-◌, arith, ap, nat_lt}
 use Rattle.std.proofs.lemmas.List.{take_all, length-drop}
@@ -22,7 +22,7 @@ use Rattle.report_run.specs.Messages.{Seen}
 use Rattle.report_run.specs.Plans.{dressed, map_of}
 use Rattle.report_run.specs.Images.{IsSoughtReport, IsNoSoughtReport}
 use Rattle.report_run.specs.Logs.{front_len, most_log, text_in, log_text, IsNoLog, IsSeenLog, IsHeldLog, IsUnlooked, IsLogUnreported}
-use Rattle.report_run.specs.Reports.{IsUnknownReport, IsNoUnknownReport}
+use Rattle.report_run.specs.Reports.{IsPlainReport, IsNoPlainReport}
 
 -- ---- the look
 
@@ -71,14 +71,14 @@ unlooked (Refused n cause) before now h = absurd h
 module _ (asked : Asked) (known : Known) (path : List ℕ) (holds given now : Option (List ℕ)) (read0 read2 put0 put1 : ℕ)
   where
     pub unseen : (a : Seen) (why : Failure) → IsUnlooked read0 read2 why
-        → IsNoUnknownReport asked known path holds read0 read2 given given put0 put1 a a why
+        → IsNoPlainReport asked known path holds read0 read2 given given put0 put1 a a why
     unseen a why h = inl (record { cause = h; unput = refl; silent = refl })
 
     pub by_log : (log : LogImage) (a : Seen) (r : Result ReportHeld Failure) → IsHeldLog asked.logs holds log
         → MatchResult r (IsReported asked.format path (dressed log.plan asked.lines (map_of asked.map))
         (Some log.region.items) given now) (IsLogUnreported asked path log given now put0 put1)
-        → MatchResult r (IsUnknownReport asked known path holds given now a a)
-        (IsNoUnknownReport asked known path holds read0 read2 given now put0 put1 a a)
+        → MatchResult r (IsPlainReport asked known path holds given now a a)
+        (IsNoPlainReport asked known path holds read0 read2 given now put0 put1 a a)
     by_log log a (Ok report) is h =
         inl (record { reported = record { log = log; held = is; reported = h }; silent = refl })
     by_log log a (Err why) is h =
@@ -88,8 +88,8 @@ module _ (asked : Asked) (known : Known) (path : List ℕ) (holds given now : Op
         → IsNoLog asked.logs holds → same ≡ holds → read0 ≤ read1
         → MatchResult r (IsSoughtReport asked known path same given now a b)
         (IsNoSoughtReport asked known path same read1 read2 given now put0 put1 a b)
-        → MatchResult r (IsUnknownReport asked known path holds given now a b)
-        (IsNoUnknownReport asked known path holds read0 read2 given now put0 put1 a b)
+        → MatchResult r (IsPlainReport asked known path holds given now a b)
+        (IsNoPlainReport asked known path holds read0 read2 given now put0 put1 a b)
     by_search same read1 a b (Ok report) unlogged e later h =
         inr (record {
           no_log = unlogged;

@@ -1,5 +1,5 @@
 -- The report of any image, and why there is none
-use Rattle.std.specs.Prelude.{◌≡◌, ◌⊎◌, ◌≤◌, ℕ, List, Option}
+use Rattle.std.specs.Prelude.{◌≡◌, ◌⊎◌, ◌≤◌, ℕ, Bool, true, false, List, Option}
 use Rattle.layout_spec.specs.declared.Known.{Known}
 use Rattle.region_report.specs.Reports.{ReportHeld}
 use Rattle.report_tool.specs.declared.plan.Plan.{Plan}
@@ -10,9 +10,10 @@ use Rattle.report_run.specs.declared.plans.Asked.{Asked}
 use Rattle.report_run.specs.declared.failures.Failure.{Failure}
 use Rattle.report_run.specs.Messages.{Seen}
 use Rattle.report_run.specs.Images.{IsStopped, IsSoughtReport, IsNoSoughtReport}
+use Rattle.report_run.specs.Packed.{is_packed, IsPackedReport, IsNoPackedReport}
 use Rattle.report_run.specs.Logs.{IsNoLog, IsUnlooked, IsLogReport, IsHeldUnreported}
 
--- ---- an image of which no layout is known
+-- ---- an image of which no layout is known, and that is no packed record
 
 -- it is a text log
 pub record IsAsLog (asked : Asked) (path : List ℕ) (holds given now : Option (List ℕ)) (a b : Seen)
@@ -26,9 +27,9 @@ pub record IsAsSought (asked : Asked) (known : Known) (path : List ℕ) (holds g
   pub no_log : IsNoLog asked.logs holds
   pub reported : IsSoughtReport asked known path holds given now a b report
 
-abbrev pub IsUnknownReport : Asked → Known → List ℕ → Option (List ℕ) → Option (List ℕ) → Option (List ℕ)
+abbrev pub IsPlainReport : Asked → Known → List ℕ → Option (List ℕ) → Option (List ℕ) → Option (List ℕ)
     → Seen → Seen → ReportHeld → Type 0
-IsUnknownReport asked known path holds given now a b report =
+IsPlainReport asked known path holds given now a b report =
     IsAsLog asked path holds given now a b report ⊎ IsAsSought asked known path holds given now a b report
 
 -- it could not be read: nothing was given out
@@ -51,12 +52,26 @@ pub record IsNotAsSought (asked : Asked) (known : Known) (path : List ℕ) (hold
   pub later : read_before ≤ read_between
   pub cause : IsNoSoughtReport asked known path holds read_between read_now given now put_before put_now a b why
 
-abbrev pub IsNoUnknownReport : Asked → Known → List ℕ → Option (List ℕ) → ℕ → ℕ → Option (List ℕ) → Option (List ℕ)
+abbrev pub IsNoPlainReport : Asked → Known → List ℕ → Option (List ℕ) → ℕ → ℕ → Option (List ℕ) → Option (List ℕ)
     → ℕ → ℕ → Seen → Seen → Failure → Type 0
-IsNoUnknownReport asked known path holds read_before read_now given now put_before put_now a b why =
+IsNoPlainReport asked known path holds read_before read_now given now put_before put_now a b why =
     IsUnseenLog read_before read_now given now a b why
     ⊎ (IsNotAsLog asked path holds given now put_before put_now a b why
     ⊎ IsNotAsSought asked known path holds read_before read_now given now put_before put_now a b why)
+
+-- ---- an image of which no layout is known
+
+abbrev pub IsUnknownBy : Bool → Asked → Known → List ℕ → Option (List ℕ) → Option (List ℕ) → Option (List ℕ)
+    → Seen → Seen → ReportHeld → Type 0
+IsUnknownBy true asked known path holds given now a b report = IsPackedReport asked path holds given now a b report
+IsUnknownBy false asked known path holds given now a b report = IsPlainReport asked known path holds given now a b report
+
+abbrev pub IsNoUnknownBy : Bool → Asked → Known → List ℕ → Option (List ℕ) → ℕ → ℕ → Option (List ℕ)
+    → Option (List ℕ) → ℕ → ℕ → Seen → Seen → Failure → Type 0
+IsNoUnknownBy true asked known path holds read_before read_now given now put_before put_now a b why =
+    IsNoPackedReport asked path holds read_before read_now given now put_before put_now a b why
+IsNoUnknownBy false asked known path holds read_before read_now given now put_before put_now a b why =
+    IsNoPlainReport asked known path holds read_before read_now given now put_before put_now a b why
 
 -- ---- any image
 
@@ -70,7 +85,7 @@ abbrev pub IsReport : Layouts → Asked → List ℕ → Option (List ℕ) → O
 IsReport (Given plan) asked path holds given now a b report =
     IsGivenReport asked plan path holds given now a b report
 IsReport (Sought known) asked path holds given now a b report =
-    IsUnknownReport asked known path holds given now a b report
+    IsUnknownBy (is_packed asked.logs path) asked known path holds given now a b report
 
 pub record IsNoGivenReport (asked : Asked) (plan : Plan) (path : List ℕ) (holds : Option (List ℕ))
     (read_before read_now : ℕ) (given now : Option (List ℕ)) (put_before put_now : ℕ) (a b : Seen) (why : Failure)
@@ -83,4 +98,5 @@ abbrev pub IsNoReport : Layouts → Asked → List ℕ → Option (List ℕ) →
 IsNoReport (Given plan) asked path holds read_before read_now given now put_before put_now a b why =
     IsNoGivenReport asked plan path holds read_before read_now given now put_before put_now a b why
 IsNoReport (Sought known) asked path holds read_before read_now given now put_before put_now a b why =
-    IsNoUnknownReport asked known path holds read_before read_now given now put_before put_now a b why
+    IsNoUnknownBy (is_packed asked.logs path) asked known path holds read_before read_now given now put_before put_now
+    a b why

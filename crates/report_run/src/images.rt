@@ -2,12 +2,14 @@
 ghost use Rattle.std.specs.Prelude.{◌≡◌, ◌≤◌, MatchResult};
 ghost use Rattle.report_run.specs.Messages.{seen};
 ghost use Rattle.report_run.specs.Images.{TellsLayout, IsNotTold, IsStopped, IsSoughtReport, IsNoSoughtReport};
-ghost use Rattle.report_run.specs.Reports.{IsUnknownReport, IsNoUnknownReport, IsReport, IsNoReport};
+ghost use Rattle.report_run.specs.Reports.{IsPlainReport, IsNoPlainReport, IsUnknownBy, IsNoUnknownBy, IsReport, IsNoReport};
+ghost use Rattle.report_run.specs.Packed.{is_packed};
 ghost use Rattle.report_tool.specs.Images.{IsReported};
 
 use crate::failures::{Failure, stop_failure};
 use crate::logs::{held_log, report_log};
 use crate::messages::Messages;
+use crate::packed::{is_packed, report_packed};
 use crate::plans::{Asked, sought_plan};
 use outside::{Failed, Load, Sink};
 use region_report::Report;
@@ -89,8 +91,8 @@ fn sought_report<M: Load, O: Sink, E: Sink>(
     report_by(alloc, &told.plan, asked.format, path, image, out)
 }
 
-// The report of an image of which no layout is known: as a text log, or by a layout that is looked for.
-fn unknown_report<M: Load, O: Sink, E: Sink>(
+// The report of an image as a text log, or by a layout that is looked for.
+fn plain_report<M: Load, O: Sink, E: Sink>(
     alloc: Global,
     asked: &Asked,
     known: &Known,
@@ -100,10 +102,10 @@ fn unknown_report<M: Load, O: Sink, E: Sink>(
     messages: &mut Messages<E>,
 ) -> Result<Report, Failure>
     ensures reported { MatchResult result
-        (IsUnknownReport asked.now known.now path.now (M.holds image.old) (O.given out.old) (O.given out.new)
+        (IsPlainReport asked.now known.now path.now (M.holds image.old) (O.given out.old) (O.given out.new)
         (seen (E.given messages.old.errors) (E.faults messages.old.errors) messages.old.is_lost)
         (seen (E.given messages.new.errors) (E.faults messages.new.errors) messages.new.is_lost))
-        (IsNoUnknownReport asked.now known.now path.now (M.holds image.old) (M.faults image.old)
+        (IsNoPlainReport asked.now known.now path.now (M.holds image.old) (M.faults image.old)
         (M.faults image.new) (O.given out.old) (O.given out.new) (O.faults out.old) (O.faults out.new)
         (seen (E.given messages.old.errors) (E.faults messages.old.errors) messages.old.is_lost)
         (seen (E.given messages.new.errors) (E.faults messages.new.errors) messages.new.is_lost)) }
@@ -113,6 +115,34 @@ fn unknown_report<M: Load, O: Sink, E: Sink>(
         Ok(Some(log)) => report_log(alloc, asked, log, path, out),
         Ok(None) => sought_report(alloc, asked, known, path, image, out, messages),
         Err(why) => Err(why),
+    }
+}
+
+// The report of an image of which no layout is known: of a packed record its text.
+fn unknown_report<M: Load, O: Sink, E: Sink>(
+    alloc: Global,
+    asked: &Asked,
+    known: &Known,
+    path: &str,
+    image: &mut M,
+    out: &mut O,
+    messages: &mut Messages<E>,
+) -> Result<Report, Failure>
+    ensures reported { let by = is_packed asked.now.logs path.now in
+        MatchResult result
+        (IsUnknownBy by asked.now known.now path.now (M.holds image.old) (O.given out.old) (O.given out.new)
+        (seen (E.given messages.old.errors) (E.faults messages.old.errors) messages.old.is_lost)
+        (seen (E.given messages.new.errors) (E.faults messages.new.errors) messages.new.is_lost))
+        (IsNoUnknownBy by asked.now known.now path.now (M.holds image.old) (M.faults image.old)
+        (M.faults image.new) (O.given out.old) (O.given out.new) (O.faults out.old) (O.faults out.new)
+        (seen (E.given messages.old.errors) (E.faults messages.old.errors) messages.old.is_lost)
+        (seen (E.given messages.new.errors) (E.faults messages.new.errors) messages.new.is_lost)) }
+    ensures same { M.holds image.new ≡ M.holds image.old }
+{
+    if is_packed(asked.logs, path) {
+        report_packed(alloc, asked, path, image, out, messages)
+    } else {
+        plain_report(alloc, asked, known, path, image, out, messages)
     }
 }
 

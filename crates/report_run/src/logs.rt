@@ -22,7 +22,7 @@ use text_log::is_text_log;
 const FRONT: u32 = 65_536;
 
 /// So many bytes of a log are read.
-const MOST_LOG: u32 = 268_435_456;
+pub const MOST_LOG: u32 = 268_435_456;
 
 // Whether an image is a text, as its front shows.
 fn is_text<M: Load>(alloc: Global, image: &mut M) -> Result<bool, Failure>

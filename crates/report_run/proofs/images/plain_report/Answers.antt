@@ -4,7 +4,7 @@ use Rattle.log_image.specs.declared.LogImage.{LogImage}
 use Rattle.report_run.specs.Messages.{seen}
 use Rattle.report_run.specs.Logs.{IsLooked}
 use Rattle.report_run.proofs.LogEnds.{unseen, by_log}
-use Rattle.report_run.proofs.images.unknown_report.Goals as goal
+use Rattle.report_run.proofs.images.plain_report.Goals as goal
 
 pub returns-in-Err-clause-reported : goal.returns-in-Err-clause-reported
 returns-in-Err-clause-reported g c =
