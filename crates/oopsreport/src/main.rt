@@ -3,6 +3,7 @@
 
 mod command;
 mod folder;
+mod folders;
 mod image;
 mod layout;
 mod memory;
@@ -13,6 +14,7 @@ use clap::ArgMatches;
 use clap::error::ErrorKind;
 use command::command;
 use folder::Named;
+use folders::{Depth, files_of};
 use image::System;
 use layout::{Asked, NoPlan, Terminal, asked_by, format};
 use memory::Progress;
@@ -96,6 +98,13 @@ fn paths_of(alloc: Global, matches: &ArgMatches<'_>) -> Result<Vec<String>, Allo
     Ok(paths)
 }
 
+fn depth(matches: &ArgMatches<'_>) -> Depth {
+    match matches.get_flag("recursive") {
+        true => Depth::All,
+        false => Depth::Named,
+    }
+}
+
 // The folder in which records are saved, if one is named.
 fn folder_named(alloc: Global, matches: &ArgMatches<'_>) -> Result<Option<String>, AllocError> {
     match matches.get_str("save") {
@@ -121,7 +130,7 @@ fn run<R: Runtime, S: Read + Drop, E: Sink>(
             return Ok(error.exit_code() as u8);
         }
     };
-    let paths = paths_of(alloc, &matches)?;
+    let paths = files_of(rt, alloc, paths_of(alloc, &matches)?, depth(&matches))?;
     if paths.len() > 1 && format(&matches) == Format::Html {
         let error = command(alloc)?.error(ErrorKind::TooManyValues, "a page shows one image")?;
         error.print(rt)?;
