@@ -15,7 +15,7 @@ use memory_regions::window;
 use outside::{Bytes, Load, Sink};
 use region_report::Report;
 use report_entry::Image;
-use std::alloc::{AllocError, Global};
+use std::alloc::Global;
 use text_log::is_text_log;
 
 /// So many bytes tell whether an image is a text.
@@ -25,6 +25,7 @@ const FRONT: u32 = 65_536;
 pub const MOST_LOG: u32 = 268_435_456;
 
 // Whether an image is a text, as its front shows.
+#[tactic(auto, using(crate::proofs::LogEnds::text_seen))]
 fn is_text<M: Load>(alloc: Global, image: &mut M) -> Result<bool, Failure>
     ensures seen { IfOk result (λ is. IsSeenLog is Logs.Texts (M.holds image.old)) }
     ensures unlooked { IfErr result (IsUnlooked (M.faults image.old) (M.faults image.new)) }
@@ -60,15 +61,15 @@ fn whole_lines(text: &[u8]) -> &[u8]
     }
 }
 
-// The image of a log's text, of which the last bytes are read, or all.
-fn image_of(alloc: Global, is_cut: bool, bytes: &[u8]) -> Result<LogImage, AllocError>
-    ensures { IfOk result (IsLogImage (text_in is_cut bytes.now)) }
+// The text in a log's last bytes, or in all of it.
+fn text_in(is_cut: bool, bytes: &[u8]) -> &[u8]
+    ensures { result.now ≡ text_in is_cut bytes.now }
 {
-    let text = if is_cut { whole_lines(bytes) } else { bytes };
-    log_image(alloc, text)
+    if is_cut { whole_lines(bytes) } else { bytes }
 }
 
 // A log as a region.
+#[tactic(auto, using(crate::proofs::LogEnds::log_held))]
 fn log_of<M: Load>(alloc: Global, image: &mut M) -> Result<LogImage, Failure>
     ensures image { IfOk result (λ l. IfSome (M.holds image.old) (λ bs. IsLogImage (log_text bs) l)) }
     ensures unlooked { IfErr result (IsUnlooked (M.faults image.old) (M.faults image.new)) }
@@ -83,7 +84,7 @@ fn log_of<M: Load>(alloc: Global, image: &mut M) -> Result<LogImage, Failure>
         Ok(bytes) => bytes,
         Err(unread) => return Err(unread_failure(unread)),
     };
-    let log = image_of(alloc, size > most, &bytes)?;
+    let log = log_image(alloc, text_in(size > most, &bytes))?;
     Ok(log)
 }
 
