@@ -47,7 +47,9 @@ fn all_paths<R: Runtime, S: Read, O: Sink, E: Sink>(
 ) -> Result<u8> {
     let all = paths.len();
     let mut watch = Progress::new(rt.clone()?, asked.counts);
-    let failed = report_run::run(alloc, asked, paths, images, &mut watch, out, messages, records);
+    let failed = report_run::run(
+        alloc, asked, paths, images, &mut watch, out, messages, records,
+    );
     messages.tell_end(asked.counts && all > 1, all);
     Ok(status_of(failed, messages.is_lost))
 }

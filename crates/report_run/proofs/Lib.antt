@@ -1,7 +1,8 @@
--- Messages on the best layout, reports behind the lines on a layout, files and regions one after another, and regions
--- under their names. `tell_failure`, `sought_report`, `report_path`, `run`, `report_regions`, `report_named` and
--- `report_given` cite them.
+-- Messages on the best layout, reports behind the lines on a layout, files and regions one after another, regions under
+-- their names, and those that are found. `tell_failure`, `sought_report`, `report_path`, `run`, `report_regions`,
+-- `report_named`, `report_given` and `regions_found` cite them.
 mod BestLines
+mod FoundRegions
 mod LogEnds
 mod NamedRegions
 mod RegionSteps

@@ -40,17 +40,20 @@ tail image =
     take_all most_log (drop (length image - most_log) image)
     (omega (arith, length-drop (length image - most_log) image))
 
-pub log_held : (holds : Option (List ℕ)) (size : ℕ) (bytes : List ℕ) (l : LogImage)
+pub log_held : (holds same : Option (List ℕ)) (size at : ℕ) (bytes slice text : List ℕ) (l : LogImage) → same ≡ holds
+    → at ≡ size - most_log → slice ≡ bytes → text ≡ text_in (nat_lt most_log size) slice
     → IfSome holds (λ image. size ≡ length image)
-    → IfSome holds (λ image. bytes ≡ take most_log (drop (size - most_log) image))
-    → IsLogImage (text_in (nat_lt most_log size) bytes) l → IfSome holds (λ image. IsLogImage (log_text image) l)
-log_held None size bytes l sized same is = tt
-log_held (Some image) size bytes l sized same is =
+    → IfSome same (λ image. bytes ≡ take most_log (drop at image))
+    → IsLogImage text l → IfSome holds (λ image. IsLogImage (log_text image) l)
+log_held None same size at bytes slice text l e at_is slice_is text_is sized read is = tt
+log_held (Some image) same size at bytes slice text l e at_is slice_is text_is sized read is =
+    let here : bytes ≡ take most_log (drop at image) =
+      subst (λ (o : Option (List ℕ)). IfSome o (λ image. bytes ≡ take most_log (drop at image))) e read in
     let of_size : bytes ≡ take most_log (drop (length image - most_log) image) =
-      subst (λ (n : ℕ). bytes ≡ take most_log (drop (n - most_log) image)) sized same in
-    subst (λ (text : List ℕ). IsLogImage text l)
-    (ap (λ n. text_in (nat_lt most_log n) bytes) sized
-    ∙ ap (text_in (nat_lt most_log (length image))) (of_size ∙ tail image)) is
+      subst (λ (n : ℕ). bytes ≡ take most_log (drop n image)) (at_is ∙ ap (λ n. n - most_log) sized) here in
+    subst (λ (t : List ℕ). IsLogImage t l)
+    (text_is ∙ ap (λ n. text_in (nat_lt most_log n) slice) sized
+    ∙ ap (text_in (nat_lt most_log (length image))) (slice_is ∙ of_size ∙ tail image)) is
 
 pub unlooked : (s : Stop) (before now : ℕ) → FrontStop s before now → IsUnlooked before now (stop_failure s)
 unlooked Memory before now h = tt

@@ -30,7 +30,7 @@ module _ (asked : Asked) (path : List ℕ) (base : ℕ) (holds : Option (List �
   pub one_done : (i : ℕ) (region : Region) (held : Option (List ℕ)) (s m : State) → i < length regions
       → region ≡ get_or regions i region → held ≡ holds → IsNamedDone asked path base region held s m
       → Continues i s → Continues (i + 1) m
-  unfolding AreRegionsDone, AreRegionsUndone
+  unfolding AreRegionsDone AreRegionsUndone
   one_done i region held s m inside is same one so_far =
       let here = subst (λ (h : Option (List ℕ)). IsNamedDone asked path base region h s m) same one in
       record {

@@ -1,7 +1,7 @@
 -- An image that is a text log: the report of the region that holds its last boot
-use Rattle.std.specs.Prelude.{◌≡◌, ◌⊎◌, ⊤, ℕ, ◌+◌, ◌-◌, ◌^◌, ◌==◌, nat_lt, Bool, true, false, if◌then◌else◌, List}
-use Rattle.std.specs.Prelude.{length, take, drop, Option, Some, None, IfSome}
-use Rattle.std.specs.List.{position}
+use Rattle.std.specs.Prelude.{◌≡◌, ◌⊎◌, ⊤, ℕ, ◌+◌, ◌-◌, ◌^◌, ◌==◌, nat_lt, Bool, true, false, not, if◌then◌else◌}
+use Rattle.std.specs.Prelude.{List, length, take, drop, Option, Some, None, IfSome}
+use Rattle.std.specs.List.{prefix_len}
 use Rattle.outside.specs.Outside.{Rose}
 use Rattle.text_log_spec.specs.Boots.{IsTextLog}
 use Rattle.log_image.specs.declared.LogImage.{LogImage}
@@ -40,13 +40,15 @@ abbrev pub IsSeenLog : Bool → Logs → Option (List ℕ) → Type 0
 IsSeenLog true logs holds = IsLog logs holds
 IsSeenLog false logs holds = IsNoLog logs holds
 
--- a text from the first line on that begins in it; all of it, if none does
-abbrev pub behind_break : List ℕ → Option ℕ → List ℕ
-behind_break text None = text
-behind_break text (Some at) = drop (at + 1) text
+-- a text from the first line on that begins in it; all of it, if none ends in it
+abbrev pub is_inside : ℕ → Bool
+is_inside b = not (b == 10)
+
+abbrev pub line_len : List ℕ → ℕ
+line_len text = prefix_len is_inside text
 
 abbrev pub whole_lines : List ℕ → List ℕ
-whole_lines text = behind_break text (position (λ b. b == 10) text)
+whole_lines text = if nat_lt (line_len text) (length text) then drop (line_len text + 1) text else text
 
 -- the text in a log's last bytes, or in all of it
 abbrev pub text_in : Bool → List ℕ → List ℕ

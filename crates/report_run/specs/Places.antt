@@ -31,10 +31,12 @@ unexplained_line path base place =
     codes "oopsreport: " ++ region_name path base place
     ++ codes ": a header seems to stand there, and no layout explains it" ++ 10 ∷ []
 
+unfoldable pub unseen_front : List ℕ → List ℕ
+unseen_front path = codes "oopsreport: " ++ path ++ codes ": what stands from "
+
 abbrev pub unseen_line : List ℕ → ℕ → ℕ → List ℕ
 unseen_line path base place =
-    codes "oopsreport: " ++ path ++ codes ": what stands from " ++ place_text base place
-    ++ codes " on was not looked at" ++ 10 ∷ []
+    unseen_front path ++ place_text base place ++ codes " on was not looked at" ++ 10 ∷ []
 
 abbrev pub finding_line : List ℕ → ℕ → Finding → List ℕ
 finding_line path base (Shown region) = []

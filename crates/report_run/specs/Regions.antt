@@ -1,5 +1,5 @@
 -- The report of a region in a whole memory, and why there is none
-use Rattle.std.specs.Prelude.{◌≡◌, ◌⊎◌, ⊤, ℕ, ◌+◌, ◌<◌, List, ◌++◌, length, take, drop, Option, Some}
+use Rattle.std.specs.Prelude.{◌≡◌, ◌⊎◌, ⊤, ℕ, ◌+◌, ◌<◌, ◌≤◌, List, ◌++◌, length, take, drop, Option, Some}
 use Rattle.std.specs.Prelude.{IfSome, string_bytes}
 use Rattle.outside.specs.Outside.{Rose}
 use Rattle.layout_spec.specs.Laid.{params_of}

@@ -1,8 +1,9 @@
 // An image that is a text log.
-ghost use Rattle.std.specs.Prelude.{◌≡◌, ◌≤◌, Some, IfSome, IfOk, IfErr, MatchResult};
+ghost use Rattle.std.specs.Prelude.{◌≡◌, ◌≤◌, length, drop, Some, IfSome, IfOk, IfErr, MatchResult};
 ghost use Rattle.report_run.specs.Images.{IsStopped};
 ghost use Rattle.report_run.specs.Plans.{dressed as dressed_as, map_of};
-ghost use Rattle.report_run.specs.Logs.{IsSeenLog, whole_lines, text_in, log_text, IsLooked, IsUnlooked, IsLogUnreported};
+ghost use Rattle.report_run.specs.Logs.{IsSeenLog, is_inside, line_len, whole_lines, text_in, log_text, IsLooked};
+ghost use Rattle.report_run.specs.Logs.{IsUnlooked, IsLogUnreported};
 ghost use Rattle.log_image.specs.Images.{IsLogImage};
 ghost use Rattle.report_tool.specs.Images.{IsReported};
 
@@ -23,6 +24,8 @@ const FRONT: u32 = 65_536;
 
 /// So many bytes of a log are read.
 pub const MOST_LOG: u32 = 268_435_456;
+
+const MOST: u64 = 268_435_456;
 
 // Whether an image is a text, as its front shows.
 #[tactic(auto, using(crate::proofs::LogEnds::text_seen))]
@@ -51,14 +54,37 @@ fn is_log<M: Load>(alloc: Global, logs: Logs, image: &mut M) -> Result<bool, Fai
     }
 }
 
+fn is_inside(b: u8) -> bool
+    ensures { result ≡ is_inside b }
+{
+    b != b'\n'
+}
+
+// How many bytes a text's first line has.
+fn line_len(text: &[u8]) -> usize
+    ensures len { result ≡ line_len text.now }
+    ensures within { result ≤ length text.now }
+{
+    let mut len = 0;
+    'bytes: while len < text.len() && is_inside(text[len]) {
+        len += 1;
+    }
+    len
+}
+
+// What stands from a place on; nothing past the end.
+fn tail(text: &[u8], at: usize) -> &[u8]
+    ensures { result.now ≡ drop at text.now }
+{
+    if at < text.len() { &text[at..] } else { &[] }
+}
+
 // A text from the first line on that begins in it.
 fn whole_lines(text: &[u8]) -> &[u8]
     ensures { result.now ≡ whole_lines text.now }
 {
-    match text.iter().position(|b| *b == b'\n') {
-        Some(at) => &text[at + 1..],
-        None => text,
-    }
+    let len = line_len(text);
+    if len < text.len() { tail(text, len + 1) } else { text }
 }
 
 // The text in a log's last bytes, or in all of it.
@@ -69,7 +95,6 @@ fn text_in(is_cut: bool, bytes: &[u8]) -> &[u8]
 }
 
 // A log as a region.
-#[tactic(auto, using(crate::proofs::LogEnds::log_held))]
 fn log_of<M: Load>(alloc: Global, image: &mut M) -> Result<LogImage, Failure>
     ensures image { IfOk result (λ l. IfSome (M.holds image.old) (λ bs. IsLogImage (log_text bs) l)) }
     ensures unlooked { IfErr result (IsUnlooked (M.faults image.old) (M.faults image.new)) }
@@ -79,12 +104,11 @@ fn log_of<M: Load>(alloc: Global, image: &mut M) -> Result<LogImage, Failure>
     let Ok(size) = image.size() else {
         return Err(Failure::Unread);
     };
-    let most = u64::from(MOST_LOG);
-    let bytes = match window(alloc, image, size.saturating_sub(most), MOST_LOG) {
+    let bytes = match window(alloc, image, size.saturating_sub(MOST), MOST_LOG) {
         Ok(bytes) => bytes,
         Err(unread) => return Err(unread_failure(unread)),
     };
-    let log = log_image(alloc, text_in(size > most, &bytes))?;
+    let log = log_image(alloc, text_in(size > MOST, &bytes))?;
     Ok(log)
 }
 

@@ -1,5 +1,5 @@
 // A whole memory: the regions in it, one after another.
-ghost use Rattle.std.specs.Prelude.{◌≡◌, ◌≤◌, MatchResult};
+ghost use Rattle.std.specs.Prelude.{◌≡◌, ◌≤◌, ◌<◌, length, slice_get, Some, MatchResult};
 ghost use Rattle.report_run.specs.Messages.{seen};
 ghost use Rattle.report_run.specs.States.{state};
 ghost use Rattle.report_run.specs.Memories.{IsNamedDone, IsNamedUndone, AreRegionsDone, AreRegionsUndone};
@@ -48,6 +48,13 @@ fn report_named<M: Load, O: Sink, E: Sink, F: Records>(
     report_region(alloc, asked, &name, region, memory, out, messages, records)
 }
 
+fn nth_region(regions: &[Region], i: usize) -> Region
+    requires { i < length regions.now }
+    ensures { slice_get regions.now i ≡ Some result }
+{
+    regions[i]
+}
+
 // Regions, one after another. The first that fails ends it.
 fn report_regions<M: Load, O: Sink, E: Sink, F: Records>(
     alloc: Global,
@@ -74,7 +81,8 @@ fn report_regions<M: Load, O: Sink, E: Sink, F: Records>(
     ensures later { M.faults memory.old ≤ M.faults memory.new }
 {
     for i in 0..regions.len() {
-        report_named(alloc, asked, path, base, &regions[i], memory, out, messages, records)?;
+        let region = nth_region(regions, i);
+        report_named(alloc, asked, path, base, &region, memory, out, messages, records)?;
     }
     Ok(())
 }
@@ -133,7 +141,8 @@ fn report_sought<M: Load, W: Watch, O: Sink, E: Sink, F: Records>(
     ensures later { M.faults memory.old ≤ M.faults memory.new }
 {
     let regions = regions_asked(alloc, asked, known, path, whole, memory, watch, messages)?;
-    report_regions(alloc, asked, path, whole.base, &regions, memory, out, messages, records)
+    report_regions(alloc, asked, path, whole.base, &regions, memory, out, messages, records)?;
+    Ok(())
 }
 
 /// The regions of a whole memory: the one at the place that is named, or all that are found, and their records saved, if

@@ -2,7 +2,7 @@
 ghost use Rattle.std.specs.Prelude.{◌≡◌, ◌++◌, string_bytes, IfOk, OnOk};
 ghost use Rattle.report_entry.specs.Hints.{hexadecimal};
 ghost use Rattle.report_run.specs.Places.{place_text, region_name, place_after, places_text, larger_line, finding_line};
-ghost use Rattle.report_run.specs.Places.{finding_lines, region_list, regions_in, unexplained_line, unseen_line};
+ghost use Rattle.report_run.specs.Places.{finding_lines, region_list, regions_in, unexplained_line, unseen_front, unseen_line};
 
 use found_regions::{Finding, Region};
 use std::alloc::{AllocError, Global};
@@ -95,13 +95,21 @@ fn unexplained_line(
     Ok(text)
 }
 
+#[tactic(auto, unfolding(crate::specs::Places::unseen_front))]
+fn unseen_front(alloc: Global, path: &str) -> Result<String, AllocError>
+    ensures { IfOk result (λ text. string_bytes text ≡ unseen_front path.now) }
+{
+    let mut text = String::from_str(alloc, "oopsreport: ")?;
+    text.push_str(path)?;
+    text.push_str(": what stands from ")?;
+    Ok(text)
+}
+
 fn unseen_line(alloc: Global, path: &str, base: u64, place: u64) -> Result<String, AllocError>
     ensures { IfOk result (λ text. string_bytes text ≡ unseen_line path.now base place) }
 {
     let place = place_text(alloc, base, place)?;
-    let mut text = String::from_str(alloc, "oopsreport: ")?;
-    text.push_str(path)?;
-    text.push_str(": what stands from ")?;
+    let mut text = unseen_front(alloc, path)?;
     text.push_str(&place)?;
     text.push_str(" on was not looked at")?;
     text.push_str("\n")?;

@@ -85,7 +85,8 @@ pub fn report_place<M: Load, O: Sink, F: Records>(
 {
     let bytes = bytes_at(alloc, memory, place, plan.mem())?;
     let report = report_bytes(alloc, asked, plan, name, bytes, out)?;
-    save_asked(asked.saves, &report, records)
+    save_asked(asked.saves, &report, records)?;
+    Ok(())
 }
 
 /// What is told of a region that was found: the lines on it, and the plan by which it is read.
@@ -108,7 +109,10 @@ fn region_plan(alloc: Global, asked: &Asked, found: &Found) -> Result<Plan, Allo
     ensures { IfOk result (IsRegionPlan asked.now found.now) }
 {
     match Plan::of_candidate(alloc, &found.candidate) {
-        Ok(plan) => dressed(alloc, plan, asked.lines, &asked.map),
+        Ok(plan) => {
+            let plan = dressed(alloc, plan, asked.lines, &asked.map)?;
+            Ok(plan)
+        }
         Err(_) => Err(AllocError),
     }
 }
@@ -171,5 +175,6 @@ pub fn report_region<M: Load, O: Sink, E: Sink, F: Records>(
 {
     let told = region_told(alloc, asked, name, region)?;
     tell_region(asked.format, &told, out, messages)?;
-    report_place(alloc, asked, &told.plan, name, region.place, memory, out, records)
+    report_place(alloc, asked, &told.plan, name, region.place, memory, out, records)?;
+    Ok(())
 }

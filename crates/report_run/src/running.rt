@@ -21,6 +21,8 @@ const MOST: u32 = 16_777_216;
 
 /// Where files are opened.
 pub trait Images {
+    ghost use Rattle.report_run.specs.declared.plans.Wanted.{Wanted};
+
     type Image: Load + Drop;
 
     // What the file at a path holds, of which so much is wanted, where that is told.
@@ -62,7 +64,8 @@ fn one_image<M: Load, O: Sink, E: Sink, F: Records>(
         (IsImageUndone asked.now path.now (M.holds image.old) (M.faults image.old) (M.faults image.new) before after) }
 {
     let report = report_image(alloc, asked, path, image, out, messages)?;
-    save_asked(asked.saves, &report, records)
+    save_asked(asked.saves, &report, records)?;
+    Ok(())
 }
 
 // What a file holds: an image, or a whole memory.
@@ -114,7 +117,8 @@ fn one_file<I: Images, W: Watch, O: Sink, E: Sink, F: Records>(
     ensures same { I.content images.new ≡ I.content images.old }
 {
     let mut image = images.open(path, wanted(asked.memory, &asked.layouts))?;
-    one_content(alloc, asked, path, &mut image, watch, out, messages, records)
+    one_content(alloc, asked, path, &mut image, watch, out, messages, records)?;
+    Ok(())
 }
 
 // One file, and the message on what went wrong with it. Answers whether all was done.
