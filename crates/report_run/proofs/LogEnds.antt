@@ -48,9 +48,9 @@ pub log_held : (holds same : Option (List ℕ)) (size at : ℕ) (bytes slice tex
 log_held None same size at bytes slice text l e at_is slice_is text_is sized read is = tt
 log_held (Some image) same size at bytes slice text l e at_is slice_is text_is sized read is =
     let here : bytes ≡ take most_log (drop at image) =
-      subst (λ (o : Option (List ℕ)). IfSome o (λ image. bytes ≡ take most_log (drop at image))) e read in
+    subst (λ (o : Option (List ℕ)). IfSome o (λ image. bytes ≡ take most_log (drop at image))) e read in
     let of_size : bytes ≡ take most_log (drop (length image - most_log) image) =
-      subst (λ (n : ℕ). bytes ≡ take most_log (drop n image)) (at_is ∙ ap (λ n. n - most_log) sized) here in
+    subst (λ (n : ℕ). bytes ≡ take most_log (drop n image)) (at_is ∙ ap (λ n. n - most_log) sized) here in
     subst (λ (t : List ℕ). IsLogImage t l)
     (text_is ∙ ap (λ n. text_in (nat_lt most_log n) slice) sized
     ∙ ap (text_in (nat_lt most_log (length image))) (slice_is ∙ of_size ∙ tail image)) is

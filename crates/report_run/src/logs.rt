@@ -84,7 +84,11 @@ fn whole_lines(text: &[u8]) -> &[u8]
     ensures { result.now ≡ whole_lines text.now }
 {
     let len = line_len(text);
-    if len < text.len() { tail(text, len + 1) } else { text }
+    if len < text.len() {
+        tail(text, len + 1)
+    } else {
+        text
+    }
 }
 
 // The text in a log's last bytes, or in all of it.

@@ -82,7 +82,9 @@ fn report_regions<M: Load, O: Sink, E: Sink, F: Records>(
 {
     for i in 0..regions.len() {
         let region = nth_region(regions, i);
-        report_named(alloc, asked, path, base, &region, memory, out, messages, records)?;
+        report_named(
+            alloc, asked, path, base, &region, memory, out, messages, records,
+        )?;
     }
     Ok(())
 }
@@ -141,7 +143,9 @@ fn report_sought<M: Load, W: Watch, O: Sink, E: Sink, F: Records>(
     ensures later { M.faults memory.old ≤ M.faults memory.new }
 {
     let regions = regions_asked(alloc, asked, known, path, whole, memory, watch, messages)?;
-    report_regions(alloc, asked, path, whole.base, &regions, memory, out, messages, records)?;
+    report_regions(
+        alloc, asked, path, whole.base, &regions, memory, out, messages, records,
+    )?;
     Ok(())
 }
 

@@ -24,12 +24,7 @@ fn place_text(alloc: Global, base: u64, place: u64) -> Result<String, AllocError
 }
 
 /// The name of the region at a place of a file.
-pub fn region_name(
-    alloc: Global,
-    path: &str,
-    base: u64,
-    place: u64,
-) -> Result<String, AllocError>
+pub fn region_name(alloc: Global, path: &str, base: u64, place: u64) -> Result<String, AllocError>
     ensures { IfOk result (λ text. string_bytes text ≡ region_name path.now base place) }
 {
     let place = place_text(alloc, base, place)?;
@@ -39,12 +34,7 @@ pub fn region_name(
     Ok(text)
 }
 
-fn add_place(
-    alloc: Global,
-    text: &mut String,
-    base: u64,
-    region: &Region,
-) -> Result<(), AllocError>
+fn add_place(alloc: Global, text: &mut String, base: u64, region: &Region) -> Result<(), AllocError>
     ensures { OnOk result (string_bytes text.new ≡ string_bytes text.old ++ place_after base region.now) }
 {
     let place = place_text(alloc, base, region.place)?;
@@ -79,12 +69,7 @@ pub fn larger_line(alloc: Global, larger: Option<u64>) -> Result<String, AllocEr
     Ok(text)
 }
 
-fn unexplained_line(
-    alloc: Global,
-    path: &str,
-    base: u64,
-    place: u64,
-) -> Result<String, AllocError>
+fn unexplained_line(alloc: Global, path: &str, base: u64, place: u64) -> Result<String, AllocError>
     ensures { IfOk result (λ text. string_bytes text ≡ unexplained_line path.now base place) }
 {
     let name = region_name(alloc, path, base, place)?;

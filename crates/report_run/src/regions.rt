@@ -175,6 +175,15 @@ pub fn report_region<M: Load, O: Sink, E: Sink, F: Records>(
 {
     let told = region_told(alloc, asked, name, region)?;
     tell_region(asked.format, &told, out, messages)?;
-    report_place(alloc, asked, &told.plan, name, region.place, memory, out, records)?;
+    report_place(
+        alloc,
+        asked,
+        &told.plan,
+        name,
+        region.place,
+        memory,
+        out,
+        records,
+    )?;
     Ok(())
 }

@@ -117,7 +117,9 @@ fn one_file<I: Images, W: Watch, O: Sink, E: Sink, F: Records>(
     ensures same { I.content images.new ≡ I.content images.old }
 {
     let mut image = images.open(path, wanted(asked.memory, &asked.layouts))?;
-    one_content(alloc, asked, path, &mut image, watch, out, messages, records)?;
+    one_content(
+        alloc, asked, path, &mut image, watch, out, messages, records,
+    )?;
     Ok(())
 }
 
