@@ -21,6 +21,6 @@ returns-in-Ok-Some-clause-reported g c =
     (g.M.Load.faults c.storage_of.new.image) (g.O.Sink.faults c.args.out.now)
     (g.O.Sink.faults c.report_storage.new.out) c.in-Ok-Some.storage _ _
     c.report_storage.result
-    (subst (λ (o : Option HeldStorage). IsLookedAt c.args.asked.now.logs (g.M.Load.holds c.args.image.now) o)
+    (subst (λ (o : Option HeldStorage). IsLookedAt c.args.asked.now.storages (g.M.Load.holds c.args.image.now) o)
     c.in-Ok-Some.field-0-is c.in-Ok-Some.ensures.looked)
     c.report_storage.ensures
