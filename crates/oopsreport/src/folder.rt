@@ -1,6 +1,6 @@
 // A folder of the system in which records are saved.
 ghost use Rattle.std.specs.Prelude.{None};
-ghost use Rattle.report_run.specs.Runs.{IsKeptBack};
+ghost use Rattle.report_run.specs.Saving.{IsKeptBack};
 
 use anyhow::{Context, Result, anyhow};
 use outside::Failed;
