@@ -105,24 +105,27 @@ fn an_append_is_one_answer(rt: HostRuntime) -> Result<(), Fail> {
 // The same answer, and the same flight, of one call; with parity the header's is left.
 #[test]
 fn an_append_is_one_call(rt: HostRuntime) -> Result<(), Fail> {
-    let place = console(0);
     let image = image();
     let mut flight = Flight::default();
     let mut stores = no_stores();
-    assert!(rt; oopsbox_append(&place, &image, b"de", &mut flight, &mut stores) == 0);
+    assert!(rt; oopsbox_append(&console(0), &image, b"de", &mut flight, &mut stores) == 0);
     assert!(rt; (stores.count, stores.is_last, flight.made, flight.payload) == (3, 1, 4, 2));
     assert!(rt; row_at(&stores, 0) == (0, 8, 4, 5));
     assert!(rt; row_at(&stores, 1) == (0, 4, 4, 5));
     assert!(rt; row_at(&stores, 2) == (2, 15, 2, 0));
-    assert!(rt; oopsbox_flight_next(&mut flight, &image, &[], b"de", &[], 9, &mut stores) == 0);
-    assert!(rt; (stores.count, stores.is_last, flight.made) == (0, 1, 4));
-    let was = flight;
-    assert!(rt; oopsbox_append(&place, &image[..9], b"de", &mut flight, &mut stores) == 13);
-    assert!(rt; oopsbox_append(&place, &[0; 4096], b"de", &mut flight, &mut stores) == 16);
-    assert!(rt; (stores.count, stores.is_last) == (0, 1));
-    assert!(rt; flight == was);
     assert!(rt; oopsbox_append(&console(16), &image, b"abc", &mut flight, &mut stores) == 0);
     assert!(rt; (stores.count, stores.is_last, flight.made) == (3, 0, 5));
+    Ok(())
+}
+
+#[test]
+fn an_append_of_one_call_is_refused(rt: HostRuntime) -> Result<(), Fail> {
+    let mut flight = Flight::default();
+    let mut stores = no_stores();
+    assert!(rt; oopsbox_append(&console(0), &[0; 9], b"de", &mut flight, &mut stores) == 13);
+    assert!(rt; oopsbox_append(&console(0), &[0; 4096], b"de", &mut flight, &mut stores) == 16);
+    assert!(rt; flight == Flight::default());
+    assert!(rt; (stores.count, stores.is_last) == (9, 9));
     Ok(())
 }
 
