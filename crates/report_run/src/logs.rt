@@ -15,7 +15,6 @@ use log_image::{LogImage, log_image};
 use memory_regions::window;
 use outside::{Bytes, Load, Sink};
 use region_report::Report;
-use report_entry::Image;
 use std::alloc::Global;
 use text_log::is_text_log;
 
@@ -154,6 +153,6 @@ pub fn report_log<O: Sink>(
         boots: _,
     } = log;
     let plan = dressed(alloc, plan, asked.lines, &asked.map)?;
-    let mut image = Image::new(Bytes::from_vec(region));
+    let mut image = ReadOnly::new(region);
     report_by(alloc, &plan, asked.format, path, &mut image, out)
 }
