@@ -66,7 +66,7 @@ fn one_image<M: Load, O: Sink, E: Sink, F: Records>(
     messages: &mut Messages<E>,
     records: &mut F,
 ) -> Result<(), Failure>
-    ensures { let before = state (O.given out.old) (O.faults out.old)
+    ensures done { let before = state (O.given out.old) (O.faults out.old)
         (seen (E.given messages.old.errors) (E.faults messages.old.errors) messages.old.is_lost) (F.made records.old) in
         let after = state (O.given out.new) (O.faults out.new)
         (seen (E.given messages.new.errors) (E.faults messages.new.errors) messages.new.is_lost) (F.made records.new) in
@@ -90,7 +90,7 @@ fn one_content<M: Load, W: Watch, O: Sink, E: Sink, F: Records>(
     messages: &mut Messages<E>,
     records: &mut F,
 ) -> Result<(), Failure>
-    ensures { let before = state (O.given out.old) (O.faults out.old)
+    ensures done { let before = state (O.given out.old) (O.faults out.old)
         (seen (E.given messages.old.errors) (E.faults messages.old.errors) messages.old.is_lost) (F.made records.old) in
         let after = state (O.given out.new) (O.faults out.new)
         (seen (E.given messages.new.errors) (E.faults messages.new.errors) messages.new.is_lost) (F.made records.new) in
