@@ -50,13 +50,13 @@ use Rattle.report_html.specs.Pictures.{fitting_parts, label_parts, map_parts}
 use Rattle.report_html.specs.Pictures.{corrected_parts, header_parts, blocks_parts, run_parts, runs}
 use Rattle.report_html.specs.Pictures.{unused_parts, row_parts, zone_parts, drawn_parts, width_of}
 use Rattle.report_html.specs.Pictures.{all_drawn}
-use Rattle.report_html.specs.Before.{told_before, time_after, before_parts, before_bytes}
-use Rattle.report_html.specs.Facts.{when_parts, up_parts, bytes_parts, machine_parts, some_bytes, machine_bytes}
+use Rattle.report_html.specs.Before.{told_before, time_after, named_below, before_parts, before_bytes}
+use Rattle.report_html.specs.Facts.{when_parts, up_parts, bytes_parts, machine_parts, some_bytes, named_bytes, machine_bytes}
 use Rattle.report_html.specs.Ended.{end_facts, end_parts as ending_parts, end_bytes}
 use Rattle.report_html.specs.Died.{second_parts, said_parts, why_parts, fact_parts}
 use Rattle.report_spec.specs.Excerpts.{place_above, below}
 use Rattle.report_html.specs.Died.{context_parts, rest_parts, around_parts}
-use Rattle.report_html.specs.Died.{death_parts, died_parts, second_bytes, named_bytes}
+use Rattle.report_html.specs.Died.{death_parts, died_parts, second_bytes}
 use Rattle.report_html.specs.Died.{said_bytes, why_bytes, context_bytes, rest_bytes, around_bytes, death_bytes}
 use Rattle.report_html.specs.Died.{died_bytes}
 use Rattle.report_html.specs.Listed.{below_parts, telling_parts, above_parts, say_parts, unfolded}
@@ -72,7 +72,7 @@ use Rattle.report_html.specs.Groups.{are_grouped, group_in, is_same, end_parts, 
 use Rattle.report_html.specs.Pages.{time_parts, packing_parts, record_parts}
 use Rattle.report_html.specs.Pages.{records_after, list_parts, records_opening, named_parts, name_bytes}
 use Rattle.report_html.specs.Pages.{heading_parts, page_with, page_parts}
-use Rattle.report_html.specs.Reads.{counted_parts, number_parts, read_parts}
+use Rattle.report_html.specs.Reads.{counted_parts, number_parts, clean_parts, read_parts}
 use Rattle.report_spec.specs.declared.Warning.{Warning}
 use Rattle.report_spec.specs.declared.Warning.TheVariants.{ConsoleTells, BadTeller, BadHeaders, NoLog, ManyBad}
 use Rattle.region_report.specs.Warned.{warnings_by}
@@ -203,12 +203,15 @@ of-packing (PartOfText fault text) = refl
 of-number : (words : List ℕ) (n : ℕ) → foreign_of (number_parts words n) ≡ []
 of-number words n = of-choice (nat_lt 0 n) (counted_parts words n) [] refl refl
 
+of-clean : (bad corrected : ℕ) → foreign_of (clean_parts bad corrected) ≡ []
+of-clean bad corrected = of-choice ((bad == 0) && (corrected == 0)) _ [] refl refl
+
 of-read : (zones : List Saved) (name : Name) → foreign_of (read_parts zones name) ≡ []
-of-read zones name = simp (both, of-number)
+of-read zones name = simp (both, of-clean, of-number)
 
 of-record : (zones : List Saved) (is_open : Bool) (r : RecordShown)
     → foreign_of (record_parts zones is_open r) ≡ record_bytes r
-of-record zones is_open r = simp (both, of-say, of-fold, of-time, of-packing, of-number, append-nil)
+of-record zones is_open r = simp (both, of-say, of-fold, of-time, of-packing, of-clean, of-number, append-nil)
 
 of-end : (group : Option ℕ) → foreign_of (end_parts group) ≡ []
 of-end None = refl
@@ -284,23 +287,28 @@ of-after : (time : Option Time) → foreign_of (time_after time) ≡ []
 of-after None = refl
 of-after (Some time) = refl
 
+of-named-below : (words text : List ℕ) (span : Option Span)
+    → foreign_of (named_below words text span) ≡ named_bytes text span
+of-named-below words text None = refl
+of-named-below words text (Some span) = refl
+
 of-before : (before : Option DeathTold) → foreign_of (before_parts before) ≡ before_bytes before
 of-before None = refl
-of-before (Some t) = simp (both, of-after)
+of-before (Some t) = simp (both, of-after, of-named-below, append-nil)
 
-of-death : (signature : List ℕ) (records : List RecordShown) (t : DeathTold)
-    → foreign_of (death_parts signature records t) ≡ death_bytes signature records t
-of-death signature records t =
-    simp (both, of-when, of-up, of-fact, of-bytes, of-before, of-around, append-nil)
+of-death : (signature : List ℕ) (zones : List Saved) (records : List RecordShown) (t : DeathTold)
+    → foreign_of (death_parts signature zones records t) ≡ death_bytes signature records t
+of-death signature zones records t =
+    simp (both, of-when, of-up, of-fact, of-bytes, of-before, of-clean, of-number, of-around, append-nil)
 
-of-ending : (t : Option EndTold) → foreign_of (ending_parts t) ≡ end_bytes t
-of-ending None = refl
-of-ending (Some t) = simp (both, of-when, of-up, of-bytes, append-nil)
+of-ending : (zones : List Saved) (t : Option EndTold) → foreign_of (ending_parts zones t) ≡ end_bytes t
+of-ending zones None = refl
+of-ending zones (Some t) = simp (both, of-when, of-up, of-bytes, of-clean, of-number, append-nil)
 
-of-died : (signature : List ℕ) (records : List RecordShown) (t : Option DeathTold)
-    → foreign_of (died_parts signature records t) ≡ died_bytes signature records t
-of-died signature records None = of-ending (end_told records)
-of-died signature records (Some t) = of-death signature records t
+of-died : (signature : List ℕ) (zones : List Saved) (records : List RecordShown) (t : Option DeathTold)
+    → foreign_of (died_parts signature zones records t) ≡ died_bytes signature records t
+of-died signature zones records None = of-ending zones (end_told records)
+of-died signature zones records (Some t) = of-death signature zones records t
 
 -- ---- warnings have none
 
@@ -390,7 +398,7 @@ of-page title p zones report signature told =
     let opening : List Part = heading_parts title (named_parts signature report.records told)
     ++ why_parts report.records told in
     let warned : List Part = warnings_parts report told in
-    let died : List Part = died_parts signature report.records told in
+    let died : List Part = died_parts signature (saved report.logs) report.records told in
     let opened : List Part = records_opening (length report.records) in
     let causes : List Part = causes_parts report.records in
     let records : List Part = list_parts zones report told in
@@ -410,7 +418,7 @@ of-page title p zones report signature told =
     (and-none (opening ++ warned ++ died) opened (w ++ d)
     (and-of (opening ++ warned) died w d
     (and-none opening warned w (of-opening title signature report.records told)
-    (of-warnings report told)) (of-died signature report.records told)) refl) (of-causes (crashes_of report.records)))
+    (of-warnings report told)) (of-died signature (saved report.logs) report.records told)) refl) (of-causes (crashes_of report.records)))
     (of-records (saved report.logs) (are_grouped zones) number None report.records)) (of-picture zones report))
     (of-parameters p)) refl
 
@@ -497,7 +505,14 @@ joins-machine m h =
 joins-before : (before : Option DeathTold) → TellsBytes before → Joins (before_bytes before)
 joins-before None h = joins-none
 joins-before (Some t) h =
-    joins-with (readable t.teller) t.death.telling.text t.death.telling.end [] h joins-none
+    let text : List ℕ = readable t.teller in
+    let b : Option Span → List (List ℕ) = named_bytes text in
+    let j : (span : Option Span) → Joins (named_bytes text span) = λ span. joins-named text span h in
+    let l : List (List ℕ) = part text t.death.telling.text t.death.telling.end ∷ [] in
+    joins-and (l ++ b t.death.cpu ++ b t.death.function) (b t.death.task)
+    (joins-and (l ++ b t.death.cpu) (b t.death.function)
+    (joins-and l (b t.death.cpu) (joins-with text t.death.telling.text t.death.telling.end [] h joins-none)
+    (j t.death.cpu)) (j t.death.function)) (j t.death.task)
 
 joins-around : (text : List ℕ) (d : Death) → AreBytes text → Joins (around_bytes text d)
 joins-around text d h =

@@ -97,7 +97,7 @@ heading_parts title named =
 abbrev pub page_with : List ℕ → Division → List Zone → ReportHeld → List ℕ → Option DeathTold → List Part
 page_with title division zones report signature told =
     heading_parts title (named_parts signature report.records told) ++ why_parts report.records told
-    ++ warnings_parts report told ++ died_parts signature report.records told
+    ++ warnings_parts report told ++ died_parts signature (saved report.logs) report.records told
     ++ records_opening (length report.records) ++ causes_parts report.records ++ list_parts zones report told
     ++ picture zones report ++ parameters_parts division ++ Words END.now ∷ []
 

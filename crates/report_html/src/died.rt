@@ -2,6 +2,7 @@
 ghost use Rattle.std.specs.Prelude.{◌≡◌, ◌++◌, OnOk};
 ghost use Rattle.zone_spec.specs.Parts.{AreBytes};
 ghost use Rattle.std.specs.Option.{option_copied};
+ghost use Rattle.prz_read.specs.Saving.{saved};
 ghost use Rattle.region_report.specs.Tellers.{as_told, told_in};
 ghost use Rattle.report_html.specs.Pieces.{parts};
 ghost use Rattle.report_html.specs.Died.{second_parts, said_parts, why_parts, fact_parts};
@@ -15,9 +16,11 @@ use crate::ended::{add_end, add_ended};
 use crate::facts::{add_bytes, add_machine, add_up, add_when};
 use crate::listed::is_console;
 use crate::pieces::{Piece, add};
-use crate::words::{NO_CPU, NO_FUNCTION, TOLD};
+use crate::reads::add_read;
+use crate::words::{NO_CPU, NO_FUNCTION, READ, TOLD};
 use death::part;
 use death_spec::{Death, Line, Span};
+use prz_read::Logs;
 use region_report::{
     RecordReport, Telling, below, console, end_told, has_telling_line, machine_told, place_above,
     uptime,
@@ -209,14 +212,15 @@ fn console_text(told: &Telling<'_>, console: Option<&RecordReport>) -> &'static 
     shared_text(has_telling_line(console, told))
 }
 
-/// Adds which record tells, and these words.
+/// Adds which record tells, these words, and how it read.
 fn add_teller(
     pieces: &mut Vec<Piece<'_>>,
+    logs: &Logs,
     name: Name,
     words: &'static str,
 ) -> Result<(), AllocError>
     ensures { OnOk result (parts pieces.new.items
-        ≡ parts pieces.old.items ++ teller_parts name words.entry.now) }
+        ≡ parts pieces.old.items ++ teller_parts (saved logs.now) name words.entry.now) }
 {
     add(
         pieces,
@@ -224,22 +228,31 @@ fn add_teller(
             Piece::Own("<tr><th scope=\"row\">Told by</th><td>"),
             Piece::Link(name),
             Piece::Own(words),
+            Piece::Own(READ),
+        ],
+    )?;
+    add_read(pieces, logs, name)?;
+    add(
+        pieces,
+        &[
             Piece::Own(TOLD),
             Piece::Named(name),
             Piece::Own("</h2>\n<pre class=\"log\">\n"),
         ],
-    )
+    )?;
+    Ok(())
 }
 
 fn add_death<'a>(
     pieces: &mut Vec<Piece<'a>>,
     signature: &'a [u8],
+    logs: &Logs,
     told: &Telling<'a>,
     records: &'a [RecordReport],
 ) -> Result<(), AllocError>
     ensures bytes { OnOk result (AreDeathBytes signature.entry.now records.entry.now (as_told told.now)) }
     ensures parts { OnOk result (parts pieces.new.items ≡ parts pieces.old.items
-        ++ death_parts signature.entry.now records.entry.now (as_told told.now)) }
+        ++ death_parts signature.entry.now (saved logs.now) records.entry.now (as_told told.now)) }
 {
     let teller: &'a RecordReport = told.teller;
     let text = teller.readable();
@@ -249,7 +262,8 @@ fn add_death<'a>(
     add_bytes(pieces, "Signature", signature)?;
     add_machine(pieces, machine_told(told, console(records)))?;
     add_before(pieces, teller.name, records)?;
-    add_teller(pieces, teller.name, console_text(told, console(records)))?;
+    let words = console_text(told, console(records));
+    add_teller(pieces, logs, teller.name, words)?;
     add_around(pieces, text, told.death)?;
     add(pieces, &[Piece::Own("</pre>\n")])?;
     Ok(())
@@ -259,15 +273,17 @@ fn add_death<'a>(
 pub fn add_died<'a>(
     pieces: &mut Vec<Piece<'a>>,
     signature: &'a [u8],
+    logs: &Logs,
     records: &'a [RecordReport],
     told: Option<Telling<'a>>,
 ) -> Result<(), AllocError>
     ensures tells { OnOk result (AllTellBytes signature.entry.now records.entry.now (told_in told.entry)) }
     ensures parts { OnOk result (parts pieces.new.items
-        ≡ parts pieces.old.items ++ died_parts signature.entry.now records.entry.now (told_in told.entry)) }
+        ≡ parts pieces.old.items
+        ++ died_parts signature.entry.now (saved logs.now) records.entry.now (told_in told.entry)) }
 {
     match told {
-        Some(told) => add_death(pieces, signature, &told, records),
-        None => add_end(pieces, end_told(records)),
+        Some(told) => add_death(pieces, signature, logs, &told, records),
+        None => add_end(pieces, logs, end_told(records)),
     }
 }

@@ -246,7 +246,13 @@ fn all_pieces<'a>(
     add_heading(&mut pieces, title, signature, report.records(), told)?;
     add_why(&mut pieces, report.records(), told)?;
     add_warnings(alloc, &mut pieces, report, told)?;
-    add_died(&mut pieces, signature, report.records(), told)?;
+    add_died(
+        &mut pieces,
+        signature,
+        report.logs(),
+        report.records(),
+        told,
+    )?;
     add_records_opening(&mut pieces, report.records().len() as u64)?;
     add_causes(alloc, &mut pieces, report.records())?;
     add_list(&mut pieces, zones, report, told)?;

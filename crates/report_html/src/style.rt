@@ -28,6 +28,7 @@ caption{padding:.25rem 0;text-align:left;color:var(--dim)}\n\
 th,td{padding:.1875rem .625rem .1875rem 0;text-align:left;vertical-align:top;font-weight:400}\n\
 th{color:var(--dim);white-space:nowrap}\n\
 .fact td{white-space:pre-line;overflow-wrap:anywhere}\n\
+.fact span{margin-right:.375rem}\n\
 .grid th,.grid td{border-top:1px solid var(--line)}\n\
 .grid td{white-space:pre}\n\
 .grid .n{text-align:right}\n\

@@ -29,6 +29,9 @@ pub const NO_CPU: &str = "<tr><th scope=\"row\">CPU</th><td>not recorded</td></t
 
 pub const NO_FUNCTION: &str = "<tr><th scope=\"row\">Function</th><td>not recorded</td></tr>\n";
 
+/// Between the record that tells and how it read.
+pub const READ: &str = "</td></tr>\n<tr><th scope=\"row\">Read</th><td>";
+
 /// Between the table of what is known and the lines that tell it.
 pub const TOLD: &str =
     "</td></tr>\n</table>\n</header>\n<main>\n<h2 id=\"told\">The lines that tell it, in ";

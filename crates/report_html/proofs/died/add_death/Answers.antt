@@ -1,6 +1,8 @@
 -- What is known of the death, and that it is bytes
 use Rattle.std.proofs.Common.{◌≡◌, ◌++◌, ◌∙◌, List, [], ◌∷◌, ℕ, Option, codes, ap, subst}
 use Rattle.zone_spec.specs.Parts.{AreBytes}
+use Rattle.zone_spec.specs.Records.{Saved}
+use Rattle.prz_read.specs.Saving.{saved}
 use Rattle.report_spec.specs.Packed.{RecordShown, readable}
 use Rattle.report_spec.specs.Newest.{console_of}
 use Rattle.report_spec.specs.Facts.{MachineTold, uptime_of, machine_of}
@@ -29,6 +31,7 @@ returns-clause-parts c =
     let t = as_told c.args.told.now in
     let records = c.args.records.now in
     let text : List ℕ = readable t.teller in
+    let zones : List Saved = saved c.args.logs.now in
     let old = parts c.args.pieces.now.items in
     let p1 = parts c.add_when.new.pieces.items in
     let p2 = parts c.add_up.new.pieces.items in
@@ -46,7 +49,7 @@ returns-clause-parts c =
     let a5 : List Part = machine_parts (machine_of t (console_of records)) in
     let a6 : List Part = before_parts (told_before t.teller.name records) in
     let words : List ℕ = console_words t (console_of records) in
-    let a7 : List Part = teller_parts t.teller.name words in
+    let a7 : List Part = teller_parts zones t.teller.name words in
     let a8 : List Part = around_parts text t.death in
     let a9 : List Part = Words (codes "</pre>\n") ∷ [] in
     let e1 : p1 ≡ old ++ a1 =
@@ -61,9 +64,9 @@ returns-clause-parts c =
     let e6 : p6 ≡ p5 ++ a6 = c.in_ok-add_before.ensures.parts
     ∙ ap (λ (q : RecordShown). p5 ++ before_parts (told_before q.name records)) c.teller.view_is in
     let e7 : p7 ≡ p6 ++ a7 = c.in_ok-add_teller.ensures
-    ∙ ap (λ (q : RecordShown). p6 ++ teller_parts q.name c.console_text.result.now) c.teller.view_is
-    ∙ ap (λ (bs : List ℕ). p6 ++ teller_parts t.teller.name bs)
-    (c.console_text.ensures ∙ ap (λ (r : Option RecordShown). console_words t r) c.console-2.ensures) in
+    ∙ ap (λ (q : RecordShown). p6 ++ teller_parts zones q.name c.console_text-words.result.now) c.teller.view_is
+    ∙ ap (λ (bs : List ℕ). p6 ++ teller_parts zones t.teller.name bs)
+    (c.console_text-words.ensures ∙ ap (λ (r : Option RecordShown). console_words t r) c.console-2.ensures) in
     let e8 : p8 ≡ p7 ++ a8 = c.in_ok-add_around.ensures.parts
     ∙ ap (λ (bs : List ℕ). p7 ++ around_parts bs t.death) c.readable-text.ensures in
     let e9 : p9 ≡ p8 ++ a9 = c.in_ok-add.ensures in
