@@ -46,9 +46,9 @@ use Rattle.report_html.specs.Spots.{stretch_parts, verdict_parts, spot_parts}
 use Rattle.report_html.specs.Spots.{spots_opening, spots_parts}
 use Rattle.report_html.specs.Regions.{picture}
 use Rattle.report_html.specs.Pictures.{numbers_parts}
-use Rattle.report_html.specs.Pictures.{fitting_parts, label_parts, map_parts}
+use Rattle.report_html.specs.Pictures.{fitting_parts, label_parts, place_parts, zone_name, frame_parts, map_parts}
 use Rattle.report_html.specs.Pictures.{corrected_parts, header_parts, blocks_parts, run_parts, runs}
-use Rattle.report_html.specs.Pictures.{unused_parts, row_parts, zone_parts, drawn_parts, width_of}
+use Rattle.report_html.specs.Pictures.{unused_parts, parity_parts, strip_parts, row_parts, zone_parts, drawn_parts, width_of}
 use Rattle.report_html.specs.Pictures.{all_drawn}
 use Rattle.report_html.specs.Before.{told_before, time_after, named_below, before_parts, before_bytes}
 use Rattle.report_html.specs.Facts.{when_parts, up_parts, bytes_parts, machine_parts, some_bytes, named_bytes, machine_bytes}
@@ -125,18 +125,30 @@ of-row : (z : Zone) (r : Option ZoneReading) → foreign_of (row_parts z r) ≡ 
 of-row z None = refl
 of-row z (Some r) = refl
 
+of-parity : (z : Zone) → foreign_of (parity_parts z) ≡ []
+of-parity z = of-choice (nat_lt (12 + z.cap) z.size) _ [] refl refl
+
+of-strip : (z : Zone) (p : PartStates) → foreign_of (strip_parts z p) ≡ []
+of-strip z p = simp (both, of-header, of-runs, of-unused, of-parity)
+
 of-zone : (d : Saved × PartStates) → foreign_of (zone_parts d) ≡ []
-of-zone d = simp (both, of-row, of-header, of-runs, of-unused)
+of-zone d =
+    and-none (row_parts d.0.0 d.0.1 ++ strip_parts d.0.0 d.1) (Words (codes "</td></tr>\n") ∷ []) []
+    (and-none (row_parts d.0.0 d.0.1) (strip_parts d.0.0 d.1) [] (of-row d.0.0 d.0.1) (of-strip d.0.0 d.1)) refl
 
 of-label : (z : Zone) (whole : ℕ) → foreign_of (label_parts z whole) ≡ []
 of-label z whole = of-choice (nat_lt (16 * z.size) whole) [] (fitting_parts z whole) refl refl
 
-of-map : (whole : ℕ) (z : Zone) (r : Option ZoneReading) → foreign_of (map_parts whole z r) ≡ []
-of-map whole z r = simp (both, of-label)
+of-map : (whole : ℕ) (d : Saved × PartStates) → foreign_of (map_parts whole d) ≡ []
+of-map whole d =
+    let front : List Part = place_parts whole d.0.0 ++ zone_name d.0.0 ++ frame_parts d.0.1 in
+    and-none (front ++ strip_parts d.0.0 d.1 ++ label_parts d.0.0 whole) (Words (codes "</svg>\n") ∷ []) []
+    (and-none (front ++ strip_parts d.0.0 d.1) (label_parts d.0.0 whole) []
+    (and-none front (strip_parts d.0.0 d.1) [] refl (of-strip d.0.0 d.1)) (of-label d.0.0 whole)) refl
 
 of-drawn : (in_table : Bool) (whole : ℕ) (d : Saved × PartStates) → foreign_of (drawn_parts in_table whole d) ≡ []
 of-drawn true whole d = of-zone d
-of-drawn false whole d = of-map whole d.0.0 d.0.1
+of-drawn false whole d = of-map whole d
 
 of-all : (in_table : Bool) (zones : List Zone) (report : ReportHeld) → foreign_of (all_drawn in_table zones report) ≡ []
 of-all in_table zones report =

@@ -41,12 +41,13 @@ details>.scroll{margin-bottom:1rem}\n\
 .fix{color:var(--fix);fill:var(--fix);border-style:dashed}\n\
 .bad{color:var(--bg);background:var(--bad);border-color:var(--bad);fill:var(--bad)}\n\
 .off{color:var(--dim);fill:var(--off);border-style:dotted}\n\
+.par{fill:none;stroke:var(--off)}\n\
 .map,.strip{display:block;width:100%}\n\
 .map{height:52px}\n\
 .zone{fill:var(--code);stroke:var(--off);stroke-width:.5}\n\
 text{fill:var(--fg);font:.75rem system-ui,sans-serif}\n\
 .strip{height:1.5rem}\n\
-.strip rect{vector-effect:non-scaling-stroke}\n\
+.strip rect,.key rect{vector-effect:non-scaling-stroke}\n\
 .strip .fix,.strip .bad{stroke:var(--fix);stroke-width:1px}\n\
 .strip .bad{stroke:var(--bad)}\n\
 .legend{margin:.5rem 0;padding:0;list-style:none;display:flex;flex-wrap:wrap;gap:.125rem 1rem}\n\
