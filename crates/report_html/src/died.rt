@@ -303,11 +303,7 @@ fn add_teller(
     add_read(pieces, logs, name)?;
     add(
         pieces,
-        &[
-            Piece::Own(TOLD),
-            Piece::Named(name),
-            Piece::Own("</h2>\n"),
-        ],
+        &[Piece::Own(TOLD), Piece::Named(name), Piece::Own("</h2>\n")],
     )?;
     Ok(())
 }

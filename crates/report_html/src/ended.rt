@@ -76,11 +76,7 @@ fn add_told(pieces: &mut Vec<Piece<'_>>, logs: &Logs, name: Name) -> Result<(), 
     Ok(())
 }
 
-fn add_facts<'a>(
-    pieces: &mut Vec<Piece<'a>>,
-    logs: &Logs,
-    end: &End<'a>,
-) -> Result<(), AllocError>
+fn add_facts<'a>(pieces: &mut Vec<Piece<'a>>, logs: &Logs, end: &End<'a>) -> Result<(), AllocError>
     ensures bytes { OnOk result (AreEndBytes (as_ended end.now)) }
     ensures parts { OnOk result (parts pieces.new.items ≡ parts pieces.old.items
         ++ end_facts (saved logs.now) (as_ended end.now)) }
