@@ -1,6 +1,6 @@
 -- What a search with a narrower aim settles
-use Rattle.std.proofs.Common.{◌≡◌, ◌≢◌, ℕ, ◌<◌, ◌≤◌, Bool, true, false, List, [], ◌∷◌, length, get_or, take, Option, Some, None}
-use Rattle.std.proofs.Common.{refl, sym, ap, ◌∙◌, subst, arith, ◌⊎◌, inl, inr}
+use Rattle.std.proofs.Common.{◌≡◌, ◌≢◌, ℕ, ◌<◌, ◌≤◌, Bool, true, false, List, [], ◌∷◌, length, get_or, Option, Some, None}
+use Rattle.std.proofs.Common.{refl, sym, ap, ◌∙◌, arith, ◌⊎◌, inl, inr}
 use Rattle.std.specs.Prelude.{nat_le}
 use Rattle.std.proofs.lemmas.Bool.{leb-true, leb-false}
 use Rattle.layout_spec.specs.declared.Candidate.{Candidate}
@@ -9,9 +9,9 @@ use Rattle.layout_spec.specs.declared.Tally.{Tally}
 use Rattle.layout_spec.specs.Family.{is_of_family, is_one_of, tags_for}
 use Rattle.layout_spec.specs.Laid.{zones_of}
 use Rattle.layout_spec.specs.Order.{faults, tally_of, key, is_before}
-use Rattle.layout_search.specs.Levels.{Over, having, values}
+use Rattle.layout_search.specs.Levels.{having, values}
 use Rattle.layout_search.specs.Walked.{OverBefore, count_of}
-use Rattle.layout_search.specs.Tried.{IsAim, IsSound, Advances, IsSettled, TagsSettled, SettledOver, SettledBefore, HasFew, is_ahead}
+use Rattle.layout_search.specs.Tried.{IsAim, IsSound, Advances, TagsSettled, SettledOver, SettledBefore, HasFew, is_ahead}
 use Rattle.layout_search.specs.Narrowed.{IsNarrowed}
 use Rattle.layout_search.specs.declared.levels.Level.{Level}
 use Rattle.layout_search.specs.declared.levels.Reached.{Reached}

@@ -27,9 +27,9 @@ use crate::sweeping::sweep;
 use layout_spec::{Candidate, Known, Tally};
 use std::alloc::{AllocError, Global};
 
-// How much work a search may do where it may give up: laying out a zone costs 64, a header without parity 4, one with
-// parity 512.
-const WORK: u64 = 1 << 30;
+// How much work a search may do where it may give up: looking at a place costs 1, laying out a zone 16, decoding a header
+// 8192.
+const WORK: u64 = 1 << 29;
 
 // No layout has more faults.
 const LAST: u64 = (1 << 62) + (1 << 32);
@@ -409,7 +409,16 @@ pub fn search(alloc: Global, image: &[u8], known: &Known) -> Result<Option<Found
         let other = has_other(alloc, image, known, &lists, marks, &best, &mut sights)?;
         return Ok(Some(answer(&best, None, !other, &state)));
     }
-    let others = find_rival(alloc, image, known, &lists, marks, &best, state.work, &mut sights)?;
+    let others = find_rival(
+        alloc,
+        image,
+        known,
+        &lists,
+        marks,
+        &best,
+        state.work,
+        &mut sights,
+    )?;
     let rival = candidate_of(&others.best);
     if others.work > 0 {
         return Ok(Some(answer(&best, rival, true, &state)));

@@ -23,8 +23,8 @@ pub struct Sights {
 
 const MOST_SLOTS: usize = 1 << 17;
 
-// Decoding a header costs as much as looking at so many others.
-const DECODING: u64 = 128;
+// Decoding a header costs as much as looking at so many places.
+const DECODING: u64 = 8192;
 
 /// Nothing was seen yet of an image of this length.
 pub fn no_sights(alloc: Global, len: usize) -> Result<Sights, AllocError>

@@ -67,7 +67,7 @@ fn walk(
     for k in 0..list.len() {
         let candidate = having(c, level, list[k]);
         let near = narrowed(aim, &state.best);
-        let mut looked = 1;
+        let mut looked = 4;
         let may = may_hold(
             alloc,
             image,

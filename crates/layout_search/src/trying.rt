@@ -94,9 +94,7 @@ fn is_left_out(besides: &Option<Candidate>, c: &Candidate) -> bool
 
 // What a candidate costs that has so many zones, with what looking at their headers costs.
 fn price(zones: usize, looked: u64) -> u64 {
-    (zones as u64)
-        .saturating_mul(64)
-        .saturating_add(looked.saturating_mul(4))
+    (zones as u64).saturating_mul(16).saturating_add(looked)
 }
 
 /// How far a search has come with this best, for so much work more.

@@ -1,5 +1,5 @@
 -- The slot holds what was seen of the zone, and the others what they held. For `keep`.
-use Rattle.std.proofs.Common.{◌≡◌, ◌<◌, length, refl, arith}
+use Rattle.std.proofs.Common.{◌<◌, length, refl, arith}
 use Rattle.layout_search.specs.declared.sights.Sight.{Sight}
 use Rattle.layout_search.proofs.Slots.{one_more_seen}
 use Rattle.layout_search.proofs.sights.keep.Goals as goal
