@@ -20,27 +20,28 @@ pub record AreOf (zones : List Zone) (report : ReportHeld) : Type 0 where
   pub parts_len : length report.parts ≡ length zones
 
 -- a text for a terminal, each byte of which is visible
-pub record IsVisibleText (path : List ℕ) (lines : ℕ) (report : ReportHeld) (text : List ℕ) : Type 0 where
-  pub is_text : IsTextOf path lines report text
+pub record IsVisibleText (path : List ℕ) (lines : ℕ) (better : List ℕ) (report : ReportHeld) (text : List ℕ) : Type 0 where
+  pub is_text : IsTextOf path lines better report text
   pub visible : list_all is_visible text ≡ true
 
 -- a line of JSON, and a newline
-pub record IsJsonLine (path : List ℕ) (division : Division) (zones : List Zone) (report : ReportHeld) (text : List ℕ)
-    : Type 0 where
+pub record IsJsonLine (path : List ℕ) (division : Division) (zones : List Zone) (better : List ℕ) (report : ReportHeld)
+    (text : List ℕ) : Type 0 where
   pub line : List ℕ
-  pub is_line : IsLine path division zones report line
+  pub is_line : IsLine path division zones better report line
   pub text_is : text ≡ line ++ 10 ∷ []
 
--- a report of zones, divided so, with so many lines of the newest dump in a text
-abbrev pub ShowsZones : Format → List ℕ → Division → List Zone → ℕ → ReportHeld → List ℕ → Type 0
-ShowsZones Text path division zones lines report text = IsVisibleText path lines report text
-ShowsZones Json path division zones lines report text = IsJsonLine path division zones report text
-ShowsZones Html path division zones lines report text = text ≡ page_of path division zones report
+-- a report of zones, divided so, with so many lines of the newest dump in a text, and with the words of a layout that
+-- explains the image better, which a page does not show
+abbrev pub ShowsZones : Format → List ℕ → Division → List Zone → ℕ → List ℕ → ReportHeld → List ℕ → Type 0
+ShowsZones Text path division zones lines better report text = IsVisibleText path lines better report text
+ShowsZones Json path division zones lines better report text = IsJsonLine path division zones better report text
+ShowsZones Html path division zones lines better report text = text ≡ page_of path division zones report
 
 -- a report of a plan's zones
 abbrev pub IsOf : Plan → ReportHeld → Type 0
 IsOf plan report = AreOf plan.zones.items report
 
-abbrev pub Shows : Format → List ℕ → Plan → ReportHeld → List ℕ → Type 0
-Shows format path plan report text =
-    ShowsZones format path (Region plan.params) plan.zones.items plan.lines report text
+abbrev pub Shows : Format → List ℕ → Plan → List ℕ → ReportHeld → List ℕ → Type 0
+Shows format path plan better report text =
+    ShowsZones format path (Region plan.params) plan.zones.items plan.lines better report text

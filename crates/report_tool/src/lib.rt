@@ -4,8 +4,10 @@
 //! Nothing here writes an image: what holds it has no call to write.
 #![tactic(auto)]
 
+mod better;
 mod finding;
 mod images;
+mod layout_words;
 mod plan;
 mod saving;
 mod showing;
@@ -16,6 +18,7 @@ pub use command_spec::Stop;
 pub use finding::{find, known};
 pub use images::report;
 pub use layout_search::{Candidate, Found, Known};
+pub use layout_words::{layout_words, push_number};
 pub use plan::{Plan, PlanFault};
 pub use saving::{Folder, save};
 pub use showing::{Format, shown_zones};

@@ -27,18 +27,19 @@ fn json_line(
     zones: &[Zone],
     path: &str,
     report: &Report,
+    better: &str,
 ) -> Result<Vec<u8>, AllocError>
     requires { AreOf zones.now report.now }
-    ensures { IfOk result (λ line. IsJsonLine path.now division.now zones.now report.now line.items) }
+    ensures { IfOk result (λ line. IsJsonLine path.now division.now zones.now better.now report.now line.items) }
 {
-    let line = json(alloc, path, division, zones, report)?;
+    let line = json(alloc, path, division, zones, report, better)?;
     let mut bytes = line.into_bytes();
     bytes.push(b'\n')?;
     Ok(bytes)
 }
 
 /// The report of zones, divided so, of the image at `path`, written in a format. A text has so many lines of the newest
-/// dump.
+/// dump. `better` are the words of a layout that explains the image better; a page does not show them.
 pub fn shown_zones(
     alloc: Global,
     division: &Division,
@@ -47,16 +48,25 @@ pub fn shown_zones(
     format: Format,
     path: &str,
     report: &Report,
+    better: &str,
 ) -> Result<Vec<u8>, AllocError>
     requires { AreOf zones.now report.now }
-    ensures { IfOk result (λ shown. ShowsZones format path.now division.now zones.now lines report.now shown.items) }
+    ensures { IfOk result (λ shown. ShowsZones format path.now division.now zones.now lines better.now report.now
+        shown.items) }
 {
     match format {
         Format::Text => {
-            let bytes = text(alloc, path.as_bytes(), zones, report, lines)?;
+            let bytes = text(
+                alloc,
+                path.as_bytes(),
+                zones,
+                report,
+                lines,
+                better.as_bytes(),
+            )?;
             Ok(bytes.into_vec())
         }
-        Format::Json => json_line(alloc, division, zones, path, report),
+        Format::Json => json_line(alloc, division, zones, path, report, better),
         Format::Html => html(alloc, path.as_bytes(), division, zones, report),
     }
 }
@@ -68,9 +78,10 @@ pub fn shown(
     format: Format,
     path: &str,
     report: &Report,
+    better: &str,
 ) -> Result<Vec<u8>, AllocError>
     requires { IsOf plan.now report.now }
-    ensures { IfOk result (λ shown. Shows format path.now plan.now report.now shown.items) }
+    ensures { IfOk result (λ shown. Shows format path.now plan.now better.now report.now shown.items) }
 {
     let division = Division::Region(plan.params);
     shown_zones(
@@ -81,5 +92,6 @@ pub fn shown(
         format,
         path,
         report,
+        better,
     )
 }
