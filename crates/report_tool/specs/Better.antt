@@ -2,6 +2,9 @@
 use Rattle.std.specs.Prelude.{◌≡◌, ℕ, Bool, true, false, ◌&&◌, if◌then◌else◌, List, [], length, take, Option, Some, None}
 use Rattle.std.specs.Prelude.{IfSome}
 use Rattle.std.specs.List.{list_any}
+use Rattle.command_spec.specs.declared.Stop.{Stop}
+use Rattle.command_spec.specs.declared.Stop.TheVariants.{Memory}
+use Rattle.image_file.specs.Loading.{FrontStop}
 use Rattle.zone_spec.specs.Numbers.{most_memory}
 use Rattle.layout_spec.specs.declared.Candidate.{Candidate}
 use Rattle.layout_spec.specs.Laid.{params_of}
@@ -63,5 +66,14 @@ abbrev pub AreWordsIf : Bool → Option (List ℕ) → List ℕ → Type 0
 AreWordsIf false holds words = words ≡ []
 AreWordsIf true holds words = AreSoughtWords holds words
 
+-- a plan that was given reads badly
+abbrev pub is_doubted : Plan → ReportHeld → Bool
+is_doubted plan report = plan.is_given && reads_badly report
+
 abbrev pub IsBetter : Plan → ReportHeld → Option (List ℕ) → List ℕ → Type 0
-IsBetter plan report holds words = AreWordsIf (plan.is_given && reads_badly report) holds words
+IsBetter plan report holds words = AreWordsIf (is_doubted plan report) holds words
+
+-- why the words are not known: the image is read for them only where the plan is doubted
+abbrev pub IsWordsStop : Bool → Stop → ℕ → ℕ → Type 0
+IsWordsStop false stop before now = stop ≡ Memory
+IsWordsStop true stop before now = FrontStop stop before now

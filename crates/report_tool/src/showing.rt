@@ -6,7 +6,7 @@ use crate::Plan;
 use region_report::{Division, Report};
 use report_html::html;
 use report_json::json;
-use report_text::text;
+use report_text::{brief, text};
 use std::alloc::{AllocError, Global};
 use zone_spec::Zone;
 
@@ -19,6 +19,8 @@ pub enum Format {
     Json,
     /// One page, for a browser.
     Html,
+    /// One line for people: the path, the time, and the signature or how the log ends.
+    Brief,
 }
 
 fn json_line(
@@ -39,7 +41,8 @@ fn json_line(
 }
 
 /// The report of zones, divided so, of the image at `path`, written in a format. A text has so many lines of the newest
-/// dump. `better` are the words of a layout that explains the image better; a page does not show them.
+/// dump. `better` are the words of a layout that explains the image better; a text and JSON
+/// show them.
 pub fn shown_zones(
     alloc: Global,
     division: &Division,
@@ -68,6 +71,10 @@ pub fn shown_zones(
         }
         Format::Json => json_line(alloc, division, zones, path, report, better),
         Format::Html => html(alloc, path.as_bytes(), division, zones, report),
+        Format::Brief => {
+            let bytes = brief(alloc, path.as_bytes(), report)?;
+            Ok(bytes.into_vec())
+        }
     }
 }
 
