@@ -11,7 +11,7 @@ ghost use Rattle.report_tool.specs.Better.{AreOtherWords, AreSoughtWords, is_dou
 
 use crate::finding::{MOST, known};
 use crate::images::report_of_bytes;
-use crate::layout_words::layout_words;
+use crate::words::layout_words;
 use crate::{Plan, Stop};
 use image_file::load_front;
 use layout_search::{Candidate, Found, search};

@@ -7,20 +7,20 @@
 mod better;
 mod finding;
 mod images;
-mod layout_words;
 mod plan;
 mod saving;
 mod showing;
 mod tree;
 mod version;
+mod words;
 
 pub use command_spec::Stop;
 pub use finding::{find, known};
 pub use images::report;
 pub use layout_search::{Candidate, Found, Known};
-pub use layout_words::{layout_words, push_number};
 pub use plan::{Plan, PlanFault};
 pub use saving::{Folder, save};
 pub use showing::{Format, shown_zones};
 pub use tree::TreeFault;
 pub use version::{add_order, add_tag, ftrace_tag, zone_order};
+pub use words::{layout_words, push_number};

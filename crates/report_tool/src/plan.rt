@@ -1,5 +1,5 @@
 // How images are read.
-ghost use Rattle.std.specs.Prelude.{◌≡◌, ◌<◌, ◌^◌, Ok, MatchResult};
+ghost use Rattle.std.specs.Prelude.{◌≡◌, ◌<◌, ◌^◌, true, Ok, MatchResult};
 ghost use Rattle.zone_spec.specs.Layout.{layout_of};
 ghost use Rattle.ramoops_layout.specs.Layouts.{IsCause};
 ghost use Rattle.report_tool.specs.Layouts.{read_by};
