@@ -30,8 +30,8 @@ returns-in_err-tell_layout-clause-reported g c =
     c.tell_layout.new.messages.is_lost) c.in_err-tell_layout.field-0.0 =
     unended c.args.asked.now c.args.known.now c.args.path.now _ _ c.in_ok-told.told c.in_ok-told.ensures.planned
     c.in_ok-told.ensures.same (g.O.Sink.given c.args.out.now) (g.O.Sink.given c.report_by.new.out)
-    (g.O.Sink.given c.tell_layout.new.out) c.in_ok-report.report c.in_ok-report.ensures.reported c.deref-2.result.now
-    c.deref-2.ensures (g.O.Sink.faults c.args.out.now) (g.O.Sink.faults c.report_by.new.out)
+    (g.O.Sink.given c.tell_layout.new.out) c.in_ok-report.report c.in_ok-report.ensures.reported c.deref.result.now
+    c.deref.ensures (g.O.Sink.faults c.args.out.now) (g.O.Sink.faults c.report_by.new.out)
     (g.O.Sink.faults c.tell_layout.new.out) c.in_ok-report.ensures.faultless _ _ _ _ c.in_err-tell_layout.field-0.0
     c.in_err-tell_layout.ensures in
     search rules
@@ -40,6 +40,6 @@ pub returns-clause-reported : goal.returns-clause-reported
 returns-clause-reported g c =
     ended c.args.asked.now c.args.known.now c.args.path.now _ _ c.in_ok-told.told c.in_ok-told.ensures.planned
     c.in_ok-told.ensures.same (g.O.Sink.given c.args.out.now) (g.O.Sink.given c.report_by.new.out)
-    (g.O.Sink.given c.tell_layout.new.out) c.in_ok-report.report c.in_ok-report.ensures.reported c.deref-2.result.now
-    c.deref-2.ensures (g.O.Sink.faults c.args.out.now) (g.O.Sink.faults c.report_by.new.out)
+    (g.O.Sink.given c.tell_layout.new.out) c.in_ok-report.report c.in_ok-report.ensures.reported c.deref.result.now
+    c.deref.ensures (g.O.Sink.faults c.args.out.now) (g.O.Sink.faults c.report_by.new.out)
     (g.O.Sink.faults c.tell_layout.new.out) c.in_ok-report.ensures.faultless _ _ c.in_ok-tell_layout.ensures
