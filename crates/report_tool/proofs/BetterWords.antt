@@ -13,6 +13,7 @@ use Rattle.layout_spec.specs.declared.Known.{Known}
 use Rattle.layout_spec.specs.Family.{is_of_family}
 use Rattle.layout_spec.specs.Laid.{params_of}
 use Rattle.layout_search.specs.declared.searching.Found.{Found}
+use Rattle.layout_search.specs.Answers.{IsSearched}
 use Rattle.layout_search.proofs.BestSoFar.{parts_in}
 use Rattle.region_report.specs.Reports.{ReportHeld, IsReport}
 use Rattle.report_tool.specs.declared.plan.Plan.{Plan}
@@ -23,8 +24,13 @@ use Rattle.report_tool.specs.Plans.{IsLaid}
 use Rattle.report_tool.specs.Images.{IsNotReported}
 
 -- a layout of the family lies within the image
-pub within : (known : Known) (image : List ℕ) (c : Candidate) → is_of_family known image c ≡ true → c.mem ≤ length image
+within : (known : Known) (image : List ℕ) (c : Candidate) → is_of_family known image c ≡ true → c.mem ≤ length image
 within known image c h = leb-true c.mem (length image) (parts_in known image c h).within
+
+pub found_within : (known : Known) (image : List ℕ) (o : Option Found) (f : Found) → o ≡ Some f
+    → IsSearched known image o → f.candidate.mem ≤ length image
+found_within known image o f e h =
+    within known image f.candidate (subst (λ (x : Option Found). IsSearched known image x) e h).of_family
 
 -- the words of a layout by its report
 pub judged : {E : Type 0} (c : Candidate) (image : List ℕ) (plan : Plan) (report : ReportHeld) (badly : Bool)
