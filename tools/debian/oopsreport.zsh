@@ -17,9 +17,10 @@ _arguments \
     '--symbols[a System.map, for the functions of ftrace]:file:_files' \
     '--lines[last lines of the newest dump]:number:' \
     '--color[colours of a text]:when:(auto always never)' \
-    '--format[what a report is made as]:format:(text json html)' \
+    '--format[what a report is made as]:format:(text json html brief)' \
     '--json[as --format json]' \
     '--html[as --format html]' \
+    '--brief[as --format brief]' \
     '--save[a folder for the records]:folder:_files -/' \
     '--help[print the options]' \
     '--version[print the version]' \

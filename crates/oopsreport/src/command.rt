@@ -2,7 +2,7 @@
 use clap::{Arg, ArgAction, Command};
 use std::alloc::{AllocError, Global};
 
-const FORMATS: [&str; 3] = ["text", "json", "html"];
+const FORMATS: [&str; 4] = ["text", "json", "html", "brief"];
 
 // What says how the images are laid out.
 fn with_layout<'a>(alloc: Global, command: Command<'a>) -> Result<Command<'a>, AllocError> {
@@ -108,7 +108,14 @@ fn with_formats<'a>(alloc: Global, command: Command<'a>) -> Result<Command<'a>, 
         .action(ArgAction::SetTrue)
         .conflicts_with("json")?
         .help("As --format html");
-    command.arg(json)?.arg(html)
+    let brief = Arg::new(alloc, "brief")
+        .long("brief")
+        .action(ArgAction::SetTrue)
+        .conflicts_with("json")?
+        .conflicts_with("html")?
+        .conflicts_with("format")?
+        .help("As --format brief: one line an image, with its path, time and signature");
+    command.arg(json)?.arg(html)?.arg(brief)
 }
 
 // What is done with the images, and the images.

@@ -256,9 +256,13 @@ pub fn format(matches: &ArgMatches<'_>) -> Format {
     if matches.get_flag("html") {
         return Format::Html;
     }
+    if matches.get_flag("brief") {
+        return Format::Brief;
+    }
     match matches.get_str("format") {
         Some("json") => Format::Json,
         Some("html") => Format::Html,
+        Some("brief") => Format::Brief,
         _ => Format::Text,
     }
 }

@@ -153,7 +153,8 @@ fn report_by(
     }
 }
 
-/// The report of an image by words and a device tree, as `oopsreport` makes it of a file at the path `name`.
+/// The report of an image by words and a device tree, as `oopsreport` makes it of a file at the path `name`, but with the
+/// lines on a layout that was looked for in front.
 pub fn report_of(
     alloc: Global,
     words: &[String],

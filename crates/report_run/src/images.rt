@@ -1,5 +1,5 @@
 // One image, from what holds it to the two outputs.
-ghost use Rattle.std.specs.Prelude.{◌≡◌, ◌≤◌, MatchResult};
+ghost use Rattle.std.specs.Prelude.{◌≡◌, ◌≤◌, OnOk, MatchResult};
 ghost use Rattle.report_run.specs.Messages.{seen};
 ghost use Rattle.report_run.specs.Images.{TellsLayout, IsNotTold, IsStopped, IsSoughtReport, IsNoSoughtReport};
 ghost use Rattle.report_run.specs.Storages.{IsUnloggedReport, IsNoUnloggedReport};
@@ -17,7 +17,8 @@ use report_entry::Layouts;
 use report_tool::{Format, Known, Plan, report};
 use std::alloc::Global;
 
-/// Lines on the layout: above a text, and else to standard error, so that no layout is taken in silence.
+/// Lines on the layout: with a text, and to standard error for JSON and a page, so that none of them takes a layout in
+/// silence.
 pub fn tell_layout<O: Sink, E: Sink>(
     format: Format,
     lines: &str,
@@ -37,7 +38,8 @@ pub fn tell_layout<O: Sink, E: Sink>(
             Ok(()) => Ok(()),
             Err(Failed) => Err(Failure::Unwritten),
         },
-        _ => {
+        Format::Brief => Ok(()),
+        Format::Json | Format::Html => {
             messages.tell(lines.as_bytes());
             Ok(())
         }
@@ -59,6 +61,7 @@ pub fn report_by<M: Load, O: Sink>(
         (O.given out.old) (O.given out.new) (O.faults out.old) (O.faults out.new)) }
     ensures same { M.holds image.new ≡ M.holds image.old }
     ensures later { M.faults image.old ≤ M.faults image.new }
+    ensures faultless { OnOk result (O.faults out.new ≡ O.faults out.old) }
 {
     match report(alloc, plan, format, path, image, out) {
         Ok(report) => Ok(report),
@@ -88,8 +91,9 @@ fn sought_report<M: Load, O: Sink, E: Sink>(
     ensures later { M.faults image.old ≤ M.faults image.new }
 {
     let told = sought_plan(alloc, asked, known, path, image)?;
+    let report = report_by(alloc, &told.plan, asked.format, path, image, out)?;
     tell_layout(asked.format, &told.hint, out, messages)?;
-    report_by(alloc, &told.plan, asked.format, path, image, out)
+    Ok(report)
 }
 
 // The report of an image that is no text log: as a storage, or by a layout that is looked for.
@@ -148,8 +152,8 @@ fn unknown_report<M: Load, O: Sink, E: Sink>(
     }
 }
 
-/// The report of an image: the lines on its layout, where that is looked for, and then what the format shows. A text
-/// has the lines above it; else standard error is given them. A text log is reported as the region that holds it, and a
+/// The report of an image: what the format shows, and then the lines on its layout, where that is looked for. A text has
+/// the lines below it; for JSON and a page standard error is given them. A text log is reported as the region that holds it, and a
 /// storage of the kernel's pstore_zone as such.
 pub fn report_image<M: Load, O: Sink, E: Sink>(
     alloc: Global,

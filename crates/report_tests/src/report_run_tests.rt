@@ -154,8 +154,8 @@ fn a_region_of_a_memory(rt: HostRuntime) -> Result<(), Fail> {
     let known = one_console(rt.alloc())?;
     let asked = asked(known, Format::Text, Logs::Never, Some(WHOLE), false);
     let done = run_on(rt.alloc(), &asked, memory_of(rt.alloc(), &[2])?)?;
-    let front = "file@0xa000: 4096 bytes; layout found: ";
-    let is_told = begins_and_has(&done.out, front, "\nzone")?;
+    let line = "\nfile@0xa000: 4096 bytes; layout found: ";
+    let is_told = begins_and_has(&done.out, "no death: ", line)?;
     assert!(rt; is_told && done.errors.is_empty() && !done.has_failed);
     Ok(())
 }
