@@ -1,6 +1,6 @@
--- Paths that are named, one after the other. `files_at`, `add_files` and `files_of` cite them.
+-- Paths that are named, one after the other. `files_of` cites them.
 use Rattle.std.proofs.Common.{◌≡◌, ℕ, ◌+◌, ◌<◌, ◌≤◌, Bool, true, false, List, [], ◌∷◌, ◌++◌, length, take, get_or, refl}
-use Rattle.std.proofs.Common.{sym, ap, subst, ◌∙◌, append_assoc, append-nil, string_bytes, Option, Some, None, cc}
+use Rattle.std.proofs.Common.{sym, ap, subst, ◌∙◌, append_assoc, append-nil, string_bytes, Option, Some, None}
 use Rattle.std.proofs.lemmas.List.{take_all, map_more}
 use Rattle.std.specs.Prelude.{IfSome, ◌||◌}
 use Rattle.std.specs.declared.string.String.{String}
@@ -11,51 +11,6 @@ use Rattle.folder_files.specs.declared.walk.Files.{Files}
 use Rattle.folder_files.specs.Trees.{Tree, texts}
 use Rattle.folder_files.specs.Files.{files_below, levels, AreInOrder, AreFilesAt, AreFiles, is_folder, has_folder}
 use Rattle.folder_files.specs.Walks.{AddsFiles, IsWhole}
-
--- ---- one path
-
-folder_files : (kind : Kind) (t : Tree) (all : Bool) (path : List ℕ) (files : List (String Global))
-    → is_folder kind ≡ true → AreInOrder (files_below t (levels all) (path ∷ [])) files
-    → AreFilesAt kind t all path files
-folder_files Folder t all path files e h = h
-folder_files Link t all path files e h = h
-folder_files File t all path files e h = (let n : ◌≡◌ {A = Bool} false true = e in absurd (cc))
-folder_files Other t all path files e h = (let n : ◌≡◌ {A = Bool} false true = e in absurd (cc))
-
-pub of_folder : (o : Option Tree) (kind : Kind) (all : Bool) (found : List (List ℕ)) (name : List ℕ)
-    (files : List (String Global)) → is_folder kind ≡ true
-    → IfSome o (λ t. found ≡ files_below t (levels all) (name ∷ [])) → AreInOrder found files
-    → IfSome o (λ t. AreFilesAt kind t all name files)
-of_folder None kind all found name files e is h = tt
-of_folder (Some t) kind all found name files e is h =
-    folder_files kind t all name files e (subst (λ (fs : List (List ℕ)). AreInOrder fs files) is h)
-
-own_file : (kind : Kind) (t : Tree) (all : Bool) (path : List ℕ) (files : List (String Global))
-    → is_folder kind ≡ false → texts files ≡ path ∷ [] → AreFilesAt kind t all path files
-own_file File t all path files e h = h
-own_file Other t all path files e h = h
-own_file Folder t all path files e h = (let n : ◌≡◌ {A = Bool} true false = e in absurd (cc))
-own_file Link t all path files e h = (let n : ◌≡◌ {A = Bool} true false = e in absurd (cc))
-
-pub of_file : (o : Option Tree) (kind : Kind) (all : Bool) (path : List ℕ) (files : List (String Global))
-    → is_folder kind ≡ false → texts files ≡ path ∷ [] → IfSome o (λ t. AreFilesAt kind t all path files)
-of_file None kind all path files e h = tt
-of_file (Some t) kind all path files e h = own_file kind t all path files e h
-
-pub added : (o same : Option Tree) (kind : Kind) (all is : Bool) (path : List ℕ) (more : List (String Global))
-    (a b : Files) → same ≡ o → IfSome o (λ t. kind ≡ t.kind path)
-    → IfSome same (λ t. AreFilesAt kind t all path more) → b.paths.items ≡ a.paths.items ++ more
-    → is ≡ is_folder kind → b.has_folder ≡ (a.has_folder || is) → IfSome o (λ t. AddsFiles t all path a b)
-added None same kind all is path more a b e is_kind at paths is_is has = tt
-added (Some t) same kind all is path more a b e is_kind at paths is_is has = record {
-  more = more;
-  are = subst (λ (k : Kind). AreFilesAt k t all path more) is_kind
-      (subst (λ (s : Option Tree). IfSome s (λ t. AreFilesAt kind t all path more)) e at);
-  added = paths;
-  has = has ∙ ap (λ (i : Bool). a.has_folder || i) (is_is ∙ ap (λ (k : Kind). is_folder k) is_kind);
-}
-
--- ---- one path more
 
 more_files : (t : Tree) (all : Bool) (paths : List (List ℕ)) (path : List ℕ) (files more : List (String Global))
     → AreFiles t all paths files → AreFilesAt (t.kind path) t all path more
@@ -97,8 +52,7 @@ SoFar o all paths i files = IfSome o (λ t. IsWhole t all (texts (take i paths))
 
 pub none_yet : (o : Option Tree) (all : Bool) (paths : List (String Global)) (files : Files) → files.paths.items ≡ []
     → files.has_folder ≡ false → SoFar o all paths 0 files
-unfolding AreFiles
-unfolding has_folder
+unfolding AreFiles has_folder
 none_yet None all paths files e h = tt
 none_yet (Some t) all paths files e h = record { are = e; has = h }
 

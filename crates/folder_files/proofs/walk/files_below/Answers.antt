@@ -8,8 +8,8 @@ pub levels-preserved : goal.levels-preserved
 levels-preserved g c = (
   one_less (g.F.Folders.tree c.args.tree.now) (g.F.Folders.tree c.levels.tree) (levels c.args.all) c.levels.left
       (c.args.folder.now ∷ []) c.levels.found _ c.levels.invariant.1 c.levels-test.true
-      c.in_ok-next_level.ensures.added c.levels.invariant.0,
-  c.in_ok-next_level.ensures.same ∙ c.levels.invariant.1,
+      c.in_ok-found.ensures.added c.levels.invariant.0,
+  c.in_ok-found.ensures.same ∙ c.levels.invariant.1,
 )
 
 pub returns-clause-found : goal.returns-clause-found

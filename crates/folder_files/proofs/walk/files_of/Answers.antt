@@ -1,7 +1,14 @@
 -- One path more, and all. For `files_of`.
-use Rattle.std.proofs.Common.{◌∙◌}
-use Rattle.folder_files.proofs.Whole.{one_more, all_done}
+use Rattle.std.proofs.Common.{◌∙◌, refl}
+use Rattle.folder_files.proofs.Whole.{none_yet, one_more, all_done}
 use Rattle.folder_files.proofs.walk.files_of.Goals as goal
+
+pub loop-i-init : goal.loop-i-init
+loop-i-init g c = (
+  none_yet (g.F.Folders.tree c.args.tree.now) c.args.all c.args.paths.now
+      (record { paths = c.new.result; has_folder = false }) c.new.ensures.items refl,
+  refl,
+)
 
 pub loop-i-preserved : goal.loop-i-preserved
 loop-i-preserved g c = (
