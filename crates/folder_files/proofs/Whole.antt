@@ -5,11 +5,10 @@ use Rattle.std.proofs.lemmas.List.{take_all, map_more}
 use Rattle.std.specs.Prelude.{IfSome, ◌||◌}
 use Rattle.std.specs.declared.string.String.{String}
 use Rattle.std.specs.declared.alloc.Global.{Global}
-use Rattle.folder_files.specs.declared.Kind.{Kind}
-use Rattle.folder_files.specs.declared.Kind.TheVariants.{File, Folder, Link, Other}
+use Rattle.folder_files.specs.declared.Kind.TheVariants.{File}
 use Rattle.folder_files.specs.declared.walk.Files.{Files}
 use Rattle.folder_files.specs.Trees.{Tree, texts}
-use Rattle.folder_files.specs.Files.{files_below, levels, AreInOrder, AreFilesAt, AreFiles, is_folder, has_folder}
+use Rattle.folder_files.specs.Files.{AreFilesAt, AreFiles, is_folder, has_folder}
 use Rattle.folder_files.specs.Walks.{AddsFiles, IsWhole}
 
 more_files : (t : Tree) (all : Bool) (paths : List (List ℕ)) (path : List ℕ) (files more : List (String Global))
@@ -18,10 +17,13 @@ more_files : (t : Tree) (all : Bool) (paths : List (List ℕ)) (path : List ℕ)
 unfolding AreFiles
 more_files t all [] path files more are at =
     (more, [], ap (λ (fs : List (String Global)). fs ++ more) are ∙ sym (append-nil more), at, refl)
-more_files t all (first ∷ paths) path files more are at =
-    (are.0, are.1 ++ more,
-    ap (λ (fs : List (String Global)). fs ++ more) are.2 ∙ append_assoc are.0 are.1 more, are.3,
-    more_files t all paths path are.1 more are.4 at)
+more_files t all (first ∷ paths) path files more are at = (
+  are.0,
+  are.1 ++ more,
+  ap (λ (fs : List (String Global)). fs ++ more) are.2 ∙ append_assoc are.0 are.1 more,
+  are.3,
+  more_files t all paths path are.1 more are.4 at,
+)
 
 or_none : (b : Bool) → (b || false) ≡ (false || b)
 or_none true = refl

@@ -4,13 +4,12 @@
 mod paths;
 mod walk;
 
-pub use walk::{Files, files_of};
-
 ghost use Rattle.std.specs.Prelude.{◌≡◌, ℕ, List, Option, IfOk, IfSome};
 ghost use Rattle.std.specs.Option.{option_map};
 ghost use Rattle.folder_files.specs.Trees.{texts_of};
 
 use std::alloc::AllocError;
+pub use walk::{Files, files_of};
 
 /// What stands at a path.
 #[derive(Clone, Copy, Debug, PartialEq, Eq)]

@@ -1,5 +1,5 @@
 -- One path more, and all. For `files_of`.
-use Rattle.std.proofs.Common.{◌∙◌, refl}
+use Rattle.std.proofs.Common.{◌∙◌, false, refl}
 use Rattle.folder_files.proofs.Whole.{none_yet, one_more, all_done}
 use Rattle.folder_files.proofs.walk.files_of.Goals as goal
 
