@@ -77,6 +77,7 @@ pub fn report_packed<M: Load, O: Sink, E: Sink>(
         (seen (E.given messages.old.errors) (E.faults messages.old.errors) messages.old.is_lost)
         (seen (E.given messages.new.errors) (E.faults messages.new.errors) messages.new.is_lost)) }
     ensures same { M.holds image.new ≡ M.holds image.old }
+    ensures later { M.faults image.old ≤ M.faults image.new }
 {
     let PackedLog { log, fault } = packed_log(alloc, image)?;
     messages.tell_part(path, fault);
