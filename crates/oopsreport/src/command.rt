@@ -141,9 +141,16 @@ fn with_work<'a>(alloc: Global, command: Command<'a>) -> Result<Command<'a>, All
         .action(ArgAction::Append)
         .num_args(1..)
         .help(
-            "A file or device: a ramoops region, a kernel's text log, or one of them as gzip; - is standard input",
+            "A file or device: a ramoops region, a kernel's text log, or one of them as gzip; a folder: each file in it; - is standard input",
         );
-    with_text(alloc, command.arg(symbols)?)?.arg(images)
+    let recursive = Arg::new(alloc, "recursive")
+        .short('r')
+        .long("recursive")
+        .action(ArgAction::SetTrue)
+        .help("Of a folder also the files in each folder below");
+    with_text(alloc, command.arg(symbols)?)?
+        .arg(recursive)?
+        .arg(images)
 }
 
 // How a text is shown.

@@ -24,6 +24,8 @@ pub enum Failure {
     Unexplained(String),
     /// The same, and not all layouts were tried.
     Unfinished(String),
+    /// Nothing of a packed record inflates.
+    NoText,
     /// A record was not saved, for this reason.
     Unsaved(String),
     /// No layout explains what stands at the place that is named.

@@ -8,6 +8,7 @@ mod images;
 mod logs;
 mod memories;
 mod messages;
+mod packed;
 mod places;
 mod plans;
 mod read_only;

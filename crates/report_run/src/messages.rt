@@ -1,12 +1,13 @@
 // Lines to standard error.
 ghost use Rattle.std.specs.Prelude.{◌≡◌, [], ◌∷◌, codes, false};
 ghost use Rattle.report_run.specs.Messages.{seen, IsTold, AreTold, place_line, IsCounted, IsEnded, line_of, short_line};
-ghost use Rattle.report_run.specs.Messages.{beyond_line, several_line};
+ghost use Rattle.report_run.specs.Messages.{beyond_line, several_line, part_line, IsPartTold};
 ghost use Rattle.report_run.specs.Messages.{IsBestTold, IsMessage};
 
 use crate::failures::Failure;
 use itoa::Buffer;
 use outside::Sink;
+use region_report::TextFault;
 
 /// Standard error. A piece of a line that it does not take costs no report, and is remembered.
 #[derive(Drop)]
@@ -105,6 +106,30 @@ impl<E: Sink> Messages<E> {
         self.tell(b"\n");
     }
 
+    // The line on a packed record that does not inflate to its end.
+    fn tell_words(&mut self, path: &str, words: &str)
+        ensures { AreTold (part_line path.now words.now)
+            (seen (E.given self.old.errors) (E.faults self.old.errors) self.old.is_lost)
+            (seen (E.given self.new.errors) (E.faults self.new.errors) self.new.is_lost) }
+    {
+        self.tell(b"oopsreport: ");
+        self.tell(path.as_bytes());
+        self.tell(b": inflated in part: ");
+        self.tell(words.as_bytes());
+        self.tell(b"\n");
+    }
+
+    /// Why a packed record does not inflate to its end, if it does not.
+    pub fn tell_part(&mut self, path: &str, fault: Option<TextFault>)
+        ensures { IsPartTold path.now fault
+            (seen (E.given self.old.errors) (E.faults self.old.errors) self.old.is_lost)
+            (seen (E.given self.new.errors) (E.faults self.new.errors) self.new.is_lost) }
+    {
+        if let Some(fault) = fault {
+            self.tell_words(path, fault.words());
+        }
+    }
+
     // The line on a memory that ends before its region.
     fn tell_beyond(&mut self, path: &str, has: u64, size: u32, place: u64)
         ensures { AreTold (beyond_line path.now has size place)
@@ -182,6 +207,7 @@ impl<E: Sink> Messages<E> {
                     "not all layouts were tried; give it by --param, --cmdline or --dtb",
                 );
             }
+            Failure::NoText => self.tell_line(path, "nothing of this packed record inflates"),
             Failure::Unsaved(why) => self.tell_line(path, why),
             Failure::NotThere => {
                 self.tell_line(
