@@ -2,3 +2,4 @@ pub mod Zones
 pub mod Records
 pub mod Found
 pub mod Told
+pub mod Words
