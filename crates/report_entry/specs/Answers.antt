@@ -7,7 +7,7 @@ use Rattle.zone_spec.specs.LayoutFaults.{fault_number as layout_number}
 use Rattle.grammar_spec.specs.Faults.{fault_number as word_number}
 use Rattle.grammar_spec.specs.declared.faults.ParamFault.{ParamFault}
 use Rattle.grammar_spec.specs.declared.faults.ParamFault.TheVariants.{UnknownKey, Twice, NotANumber}
-use Rattle.storage_spec.specs.Told.{size_fault_number}
+use Rattle.storage_words.specs.Division.{size_fault_number}
 use Rattle.report_tool.specs.declared.showing.Format.{Format}
 use Rattle.report_tool.specs.declared.showing.Format.TheVariants.{Text, Json, Html}
 use Rattle.report_entry.specs.declared.laying.NoLayouts.{NoLayouts}

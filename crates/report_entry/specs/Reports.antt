@@ -14,7 +14,7 @@ use Rattle.report_tool.specs.declared.plan.Plan.{Plan}
 use Rattle.report_tool.specs.declared.showing.Format.{Format}
 use Rattle.report_tool.specs.Plans.{IsLaid}
 use Rattle.report_tool.specs.Images.{IsReported}
-use Rattle.storage_spec.specs.declared.Storages.{Storages}
+use Rattle.storage_words.specs.declared.Storages.{Storages}
 use Rattle.storage_report.specs.declared.storage.HeldStorage.{HeldStorage}
 use Rattle.storage_report.specs.Held.{IsLookedAt}
 use Rattle.report_entry.specs.declared.laying.Layouts.{Layouts}

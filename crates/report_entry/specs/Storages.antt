@@ -10,11 +10,12 @@ use Rattle.kernel_line.specs.Line.{is_of, IsFaultAmong}
 use Rattle.region_report.specs.Reports.{ReportHeld}
 use Rattle.report_tool.specs.declared.showing.Format.{Format}
 use Rattle.psz_spec.specs.declared.Sizes.{Sizes}
-use Rattle.storage_spec.specs.declared.Storages.{Storages}
-use Rattle.storage_spec.specs.declared.Storages.TheVariants.{Never, Shown, All}
-use Rattle.storage_spec.specs.Found.{front_of, storage_of}
+use Rattle.storage_words.specs.declared.Storages.{Storages}
+use Rattle.storage_words.specs.declared.Storages.TheVariants.{Never, Shown, All}
+use Rattle.storage_spec.specs.Found.{front_of}
+use Rattle.storage_words.specs.Division.{storage_of}
 use Rattle.storage_spec.specs.Told.{storage_lines}
-use Rattle.storage_spec.specs.Words.{is_of_storage, storages_by}
+use Rattle.storage_words.specs.Words.{is_of_storage, storages_by}
 use Rattle.storage_report.specs.declared.storage.HeldStorage.{HeldStorage}
 use Rattle.storage_report.specs.declared.storage.NoStorage.{NoStorage}
 use Rattle.storage_report.specs.declared.storage.NoStorage.TheVariants.{Stopped, Undivided as NotDivided}

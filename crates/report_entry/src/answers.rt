@@ -10,7 +10,7 @@ use grammar_spec::ParamFault;
 use report_tool::Format;
 use std::alloc::Global;
 use std::str;
-use storage_zones::size_fault_number;
+use storage_words::size_fault_number;
 
 /// How a report ends.
 #[derive(Clone, Copy, Debug, PartialEq, Eq)]

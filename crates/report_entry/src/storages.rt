@@ -2,7 +2,7 @@
 ghost use Rattle.std.specs.Prelude.{◌≡◌, ◌++◌, Some, IfOk, IfErr, OnOk, MatchResult};
 ghost use Rattle.std.specs.List.{list_all};
 ghost use Rattle.grammar_spec.specs.Words.{texts};
-ghost use Rattle.storage_spec.specs.Words.{is_of_storage as is_of};
+ghost use Rattle.storage_words.specs.Words.{is_of_storage as is_of};
 ghost use Rattle.storage_report.specs.Held.{IsLookedAt};
 ghost use Rattle.report_entry.specs.Storages.{with_storage_words as with_words, IsLineFault, IsUnheld};
 ghost use Rattle.report_entry.specs.Storages.{storages_in as storages_of};
@@ -17,8 +17,7 @@ use outside::Bytes;
 use report_tool::Format;
 use std::alloc::{AllocError, Global};
 use storage_report::{HeldStorage, NoStorage, held_storage, report};
-use storage_spec::Storages;
-use storage_zones::{is_of_storage, storages_by};
+use storage_words::{Storages, is_of_storage, storages_by};
 use symbols::Symbols;
 
 /// How many lines of the newest dump a text has.
@@ -28,12 +27,7 @@ const LINES: usize = 10;
 fn are_of_storage(words: &[String]) -> bool
     ensures { result ≡ list_all is_of (texts words.now) }
 {
-    for word in words {
-        if !is_of_storage(word) {
-            return false;
-        }
-    }
-    true
+    words.iter().all(|word| is_of_storage(word))
 }
 
 fn add_each(words: &mut Vec<String>, mut more: Vec<String>) -> Result<(), AllocError>

@@ -3,7 +3,7 @@ use Rattle.std.specs.Prelude.{◌≡◌, ◌⊎◌, ℕ, Bool, true, false, List
 use Rattle.std.specs.Io.KnownBytes.{Appends}
 use Rattle.outside.specs.Outside.{Rose, AppendsFront}
 use Rattle.psz_spec.specs.declared.SizeFault.{SizeFault}
-use Rattle.storage_spec.specs.Told.{size_fault_text}
+use Rattle.storage_words.specs.Division.{size_fault_text}
 use Rattle.report_run.specs.declared.failures.Failure.{Failure}
 use Rattle.report_run.specs.declared.failures.Failure.TheVariants.{Memory, Unopened, Unread, Unwritten, Short, NotFound}
 use Rattle.report_run.specs.declared.failures.Failure.TheVariants.{Unexplained, Unfinished, Unsaved}

@@ -1,7 +1,7 @@
 -- An image that is a storage of the kernel's pstore_zone, or one whose layout is looked for
 use Rattle.std.specs.Prelude.{◌≡◌, ◌⊎◌, ◌≤◌, ℕ, List, [], Option, Some, None}
 use Rattle.command_spec.specs.declared.Stop.{Stop}
-use Rattle.storage_spec.specs.declared.Storages.{Storages}
+use Rattle.storage_words.specs.declared.Storages.{Storages}
 use Rattle.storage_spec.specs.Told.{storage_lines}
 use Rattle.storage_report.specs.declared.storage.HeldStorage.{HeldStorage}
 use Rattle.storage_report.specs.declared.storage.NoStorage.{NoStorage}

@@ -21,4 +21,4 @@ pub use messages::Messages;
 pub use plans::{Asked, Logs, Wanted, WholeMemory, dressed};
 pub use records::Records;
 pub use running::{Images, run, status_of};
-pub use storage_spec::Storages;
+pub use storage_words::Storages;

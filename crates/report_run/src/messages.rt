@@ -8,7 +8,7 @@ use crate::failures::Failure;
 use itoa::Buffer;
 use outside::Sink;
 use psz_spec::SizeFault;
-use storage_zones::size_fault_text;
+use storage_words::size_fault_text;
 
 /// Standard error. A piece of a line that it does not take costs no report, and is remembered.
 #[derive(Drop)]

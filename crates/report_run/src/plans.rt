@@ -8,7 +8,7 @@ use outside::Load;
 use report_entry::{HintedPlan, Layouts, Refusal, plan_found};
 use report_tool::{Format, Known, Plan, find};
 use std::alloc::{AllocError, Global};
-use storage_spec::Storages;
+use storage_words::Storages;
 use symbols::Symbols;
 
 /// A copy of all of a machine's memory.

@@ -14,7 +14,7 @@ use outside::{Load, Sink};
 use region_report::Report;
 use std::alloc::{AllocError, Global};
 use storage_report::{HeldStorage, NoStorage, held_storage, report};
-use storage_spec::Storages;
+use storage_words::Storages;
 use symbols::Symbols;
 
 fn no_storage_failure(none: NoStorage) -> Failure

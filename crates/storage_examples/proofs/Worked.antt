@@ -5,16 +5,10 @@ use Rattle.psz_spec.specs.Headers.{word, dump_header}
 use Rattle.psz_spec.specs.States.{state_of}
 use Rattle.psz_spec.specs.Records.{listed_in, total_line}
 use Rattle.psz_spec.specs.Failures.{kernel_fault}
-use Rattle.psz_spec.specs.Layouts.{size_fault}
-use Rattle.psz_spec.specs.Parameters.{kib_size}
-use Rattle.storage_spec.specs.Found.{storage_of}
-use Rattle.grammar_spec.specs.Words.{first_fault, given, value_text}
 use Rattle.psz_examples.specs.Listings.{storage, storage_zones, all_kinds_storage, all_kinds_zones}
 use Rattle.storage_examples.specs.Records.{HeldRow, AllHeldRow, TimeRow, NoTimeRow, EarlyRow, ErasedRow, FoundRow}
 use Rattle.storage_examples.specs.Told.{SizesRow, CpusRow, TiedRow, NotTiedRow, OopsesRow, FaultRow, StartRow}
 use Rattle.storage_examples.specs.Told.{FaultLinesRow, HasDumpRow, NoPanicRow}
-use Rattle.storage_examples.specs.Words.{WordsRow, NoWordRow, LargestRow, TooLargeRow, ForeignRow, TwiceRow}
-use Rattle.storage_examples.specs.Words.{BareRow, SmallRow, FaultTextRow}
 
 pub held : HeldRow
 unfolding digits listed_in storage storage_zones word dump_header state_of total_line
@@ -77,38 +71,3 @@ has_dump = refl
 pub no_panic : NoPanicRow
 unfolding storage storage_zones word dump_header state_of
 no_panic = refl
-
-pub words : WordsRow
-unfolding kib_size given value_text
-words = refl
-
-pub no_word : NoWordRow
-unfolding kib_size given value_text
-no_word = refl
-
-pub largest : LargestRow
-unfolding kib_size
-largest = refl
-
-pub too_large : TooLargeRow
-unfolding kib_size
-too_large = refl
-
-pub foreign : ForeignRow
-unfolding first_fault
-foreign = refl
-
-pub twice : TwiceRow
-unfolding first_fault
-twice = refl
-
-pub bare : BareRow
-unfolding first_fault
-bare = refl
-
-pub small : SmallRow
-unfolding kib_size given value_text storage storage_of size_fault
-small = refl
-
-pub fault_text : FaultTextRow
-fault_text = refl

@@ -4,8 +4,6 @@
 ghost use Rattle.storage_examples.specs.Records.{HeldRow, AllHeldRow, TimeRow, NoTimeRow, EarlyRow, ErasedRow, FoundRow};
 ghost use Rattle.storage_examples.specs.Told.{SizesRow, CpusRow, TiedRow, NotTiedRow, OopsesRow, FaultRow, StartRow};
 ghost use Rattle.storage_examples.specs.Told.{FaultLinesRow, HasDumpRow, NoPanicRow};
-ghost use Rattle.storage_examples.specs.Words.{WordsRow, NoWordRow, LargestRow, TooLargeRow, ForeignRow, TwiceRow};
-ghost use Rattle.storage_examples.specs.Words.{BareRow, SmallRow, FaultTextRow};
 
 /// The records of small storages, their times, and how zones read.
 pub fn records()
@@ -30,17 +28,4 @@ pub fn told()
     ensures fault_lines { FaultLinesRow }
     ensures has_dump { HasDumpRow }
     ensures no_panic { NoPanicRow }
-{}
-
-/// Sizes in words, and storages that they divide.
-pub fn words()
-    ensures words { WordsRow }
-    ensures no_word { NoWordRow }
-    ensures largest { LargestRow }
-    ensures too_large { TooLargeRow }
-    ensures foreign { ForeignRow }
-    ensures twice { TwiceRow }
-    ensures bare { BareRow }
-    ensures small { SmallRow }
-    ensures fault_text { FaultTextRow }
 {}

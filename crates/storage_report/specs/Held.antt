@@ -4,9 +4,10 @@ use Rattle.command_spec.specs.declared.Stop.{Stop}
 use Rattle.command_spec.specs.declared.Stop.TheVariants.{Memory}
 use Rattle.image_file.specs.Loading.{FrontStop}
 use Rattle.psz_spec.specs.declared.Sizes.{Sizes}
-use Rattle.storage_spec.specs.declared.Storages.{Storages}
-use Rattle.storage_spec.specs.declared.Storages.TheVariants.{Never, Shown, All}
-use Rattle.storage_spec.specs.Found.{front_of, storage_in, storage_of}
+use Rattle.storage_words.specs.declared.Storages.{Storages}
+use Rattle.storage_words.specs.declared.Storages.TheVariants.{Never, Shown, All}
+use Rattle.storage_spec.specs.Found.{front_of, storage_in}
+use Rattle.storage_words.specs.Division.{storage_of}
 use Rattle.storage_report.specs.declared.storage.HeldStorage.{HeldStorage}
 use Rattle.storage_report.specs.declared.storage.NoStorage.{NoStorage}
 use Rattle.storage_report.specs.declared.storage.NoStorage.TheVariants.{Stopped, Undivided}

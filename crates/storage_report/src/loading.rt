@@ -11,8 +11,8 @@ use image_file::load_front;
 use outside::Load;
 use psz_spec::Sizes;
 use std::alloc::{AllocError, Global};
-use storage_spec::Storages;
-use storage_zones::{storage_in, storage_of};
+use storage_words::{Storages, storage_of};
+use storage_zones::storage_in;
 
 /// The kernel uses no more of a storage.
 const MOST: u32 = 134_217_728;
@@ -64,6 +64,7 @@ fn divided_in(alloc: Global, sizes: &Sizes, bytes: Vec<u8>) -> Result<HeldStorag
 }
 
 // The storage that sizes divide at the front of an image.
+#[tactic(auto, using(crate::proofs::Fronts::divided_at))]
 fn divided_storage<M: Load>(
     alloc: Global,
     sizes: &Sizes,

@@ -12,7 +12,7 @@ use report_tool::{Folder, Format, save};
 use std::alloc::{AllocError, Global};
 use std::{fs, io};
 use storage_report::{HeldStorage, held_storage, report};
-use storage_spec::Storages;
+use storage_words::Storages;
 use symbols::Symbols;
 
 /// The most bytes of a report's text.

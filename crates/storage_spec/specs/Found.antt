@@ -1,11 +1,8 @@
--- The storage that the bytes of a file show, and the one that sizes divide
+-- The storage that the bytes of a file show
 use Rattle.std.specs.Prelude.{ℕ, ◌/◌, ◌*◌, if◌then◌else◌, is_none, List, length, take, Option, Some, None, unwrap_or}
-use Rattle.std.specs.Prelude.{Result, Ok, Err, false}
 use Rattle.psz_spec.specs.declared.Machine.{Machine}
 use Rattle.psz_spec.specs.declared.Machine.TheVariants.{Aligned}
 use Rattle.psz_spec.specs.declared.Shown.{Shown}
-use Rattle.psz_spec.specs.declared.Sizes.{Sizes}
-use Rattle.psz_spec.specs.declared.SizeFault.{SizeFault}
 use Rattle.psz_spec.specs.Layouts.{size_fault}
 use Rattle.psz_spec.specs.Marks.{marks_in, shown_sizes, machine_in}
 use Rattle.storage_spec.specs.declared.Storage.{Storage}
@@ -36,21 +33,3 @@ storage_by (Some shown) machine =
 unfoldable pub storage_in : List ℕ → Option Storage
 storage_in bytes =
     storage_by (shown_sizes (length bytes) (marks_in bytes)) (machine_in bytes (marks_in bytes))
-
--- ---- by sizes that are given
-
-abbrev pub sized : ℕ → Sizes → Sizes
-sized total sizes = record sizes { total = total }
-
-abbrev pub storage_given : Sizes → Option Machine → Storage
-storage_given sizes machine = record { sizes = sizes; machine = unwrap_or machine Aligned; tied = false }
-
-abbrev pub ok_unless : Option SizeFault → Storage → Result Storage SizeFault
-ok_unless None storage = Ok storage
-ok_unless (Some fault) storage = Err fault
-
--- the storage that sizes divide, or why no kernel divides these bytes by them. The bytes still show the machine
-unfoldable pub storage_of : Sizes → List ℕ → Result Storage SizeFault
-storage_of sizes bytes =
-    ok_unless (size_fault (sized (length bytes) sizes))
-    (storage_given (sized (length bytes) sizes) (machine_in bytes (marks_in bytes)))

@@ -2,4 +2,3 @@ pub mod Zones
 pub mod Records
 pub mod Found
 pub mod Told
-pub mod Words

@@ -1,5 +1,5 @@
 -- The records of a storage, as a report holds those of a region before it shows them
-use Rattle.std.specs.Prelude.{ℕ, ◌/◌, ◌^◌, nat_lt, ◌&&◌, if◌then◌else◌, List, [], map, flat_map}
+use Rattle.std.specs.Prelude.{ℕ, ◌/◌, ◌^◌, ◌==◌, nat_lt, not, ◌&&◌, if◌then◌else◌, List, [], ◌∷◌, map, flat_map}
 use Rattle.std.specs.Prelude.{Option, Some, None}
 use Rattle.std.specs.Option.{option_and_then}
 use Rattle.psz_spec.specs.declared.Name.{Name as StorageName}

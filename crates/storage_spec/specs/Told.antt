@@ -7,9 +7,6 @@ use Rattle.psz_spec.specs.declared.Kind.TheVariants.{Pmsg, Console, Ftrace, Dump
 use Rattle.psz_spec.specs.declared.Zone.{Zone}
 use Rattle.psz_spec.specs.declared.Sizes.{Sizes}
 use Rattle.psz_spec.specs.declared.Machine.{Machine}
-use Rattle.psz_spec.specs.declared.SizeFault.{SizeFault}
-use Rattle.psz_spec.specs.declared.SizeFault.TheVariants.{TotalSmall, NoSize, TotalUneven, SizeUneven, NoRoom}
-use Rattle.psz_spec.specs.declared.SizeFault.TheVariants.{FtraceSmall, NoDumpZone}
 use Rattle.psz_spec.specs.declared.KernelFault.{KernelFault}
 use Rattle.psz_spec.specs.declared.KernelFault.TheVariants.{StartBeyond, ShortDump, EmptyPacked}
 use Rattle.psz_spec.specs.Headers.{dump_header}
@@ -90,24 +87,3 @@ lines_with name s zones image =
 -- the lines on a storage under this name
 unfoldable pub storage_lines : List ℕ → Storage → List ℕ → List ℕ
 storage_lines name s image = lines_with name s (zones_of s.sizes) image
-
--- ---- sizes by which no kernel divides it
-
-abbrev pub size_fault_text : SizeFault → List ℕ
-size_fault_text TotalSmall = codes "it has fewer than 4096 bytes"
-size_fault_text NoSize = codes "all sizes are 0"
-size_fault_text TotalUneven = codes "it has no whole pages of 4096 bytes"
-size_fault_text SizeUneven = codes "a size is no multiple of 512"
-size_fault_text NoRoom = codes "its zones have no room"
-size_fault_text FtraceSmall = codes "an ftrace zone would have fewer than 12 bytes"
-size_fault_text NoDumpZone = codes "no dump zone has room"
-
--- its number for a caller
-abbrev pub size_fault_number : SizeFault → ℕ
-size_fault_number TotalSmall = 201
-size_fault_number NoSize = 202
-size_fault_number TotalUneven = 203
-size_fault_number SizeUneven = 204
-size_fault_number NoRoom = 205
-size_fault_number FtraceSmall = 206
-size_fault_number NoDumpZone = 207

@@ -13,14 +13,3 @@ pub struct Storage {
     /// One dump alone stands there: other sizes of dump zones show the same.
     pub tied: bool,
 }
-
-/// Which files are storages.
-#[derive(Clone, Copy, Debug, PartialEq, Eq)]
-pub enum Storages {
-    /// None.
-    Never,
-    /// Those in which a dump stands.
-    Shown,
-    /// Each, divided by these sizes. The file's length takes the place of `total`.
-    All(Sizes),
-}

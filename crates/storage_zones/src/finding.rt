@@ -1,11 +1,10 @@
-// The storage that the bytes of a file show, and the one that sizes divide.
+// The storage that the bytes of a file show.
 ghost use Rattle.std.specs.Prelude.{◌≡◌, ◌<◌, ◌^◌, length, None, IfOk, IfSome};
 ghost use Rattle.psz_spec.specs.Layouts.{size_fault};
 ghost use Rattle.storage_spec.specs.Found.{storage_by as storage_with, storage_in as storage_shown};
-ghost use Rattle.storage_spec.specs.Found.{storage_of as storage_by_sizes};
 
 use psz_read::{Shown, machine_in, marks_in, shown_sizes, size_fault};
-use psz_spec::{Machine, SizeFault, Sizes};
+use psz_spec::Machine;
 use std::alloc::{AllocError, Global};
 use storage_spec::Storage;
 
@@ -34,31 +33,4 @@ pub fn storage_in(alloc: Global, bytes: &[u8]) -> Result<Option<Storage>, AllocE
     let marks = marks_in(alloc, bytes)?;
     let machine = machine_in(bytes, &marks);
     Ok(storage_by(shown_sizes(bytes.len() as u32, &marks), machine))
-}
-
-/// The storage that sizes divide, or why no kernel divides these bytes by them. The bytes show the machine. Takes time
-/// linear in them.
-#[tactic(auto, unfolding(storage_spec::specs::Found::storage_of))]
-pub fn storage_of(
-    alloc: Global,
-    sizes: &Sizes,
-    bytes: &[u8],
-) -> Result<Result<Storage, SizeFault>, AllocError>
-    requires { length bytes.now < 2 ^ 32 }
-    ensures divided { IfOk result (λ divided. divided ≡ storage_by_sizes sizes.now bytes.now) }
-    ensures faultless { IfOk result (λ divided. IfOk divided (λ s. size_fault s.sizes ≡ None)) }
-{
-    let sizes = Sizes {
-        total: bytes.len() as u64,
-        ..*sizes
-    };
-    if let Some(fault) = size_fault(&sizes) {
-        return Ok(Err(fault));
-    }
-    let marks = marks_in(alloc, bytes)?;
-    Ok(Ok(Storage {
-        sizes,
-        machine: machine_in(bytes, &marks).unwrap_or(Machine::Aligned),
-        tied: false,
-    }))
 }

@@ -5,13 +5,12 @@ ghost use Rattle.storage_spec.specs.Told.{cpus_words as cpus_by, size_words as s
 ghost use Rattle.storage_spec.specs.Told.{tied_line as tied_by, oopses_line as oopses_by, is_panic as is_panic_by};
 ghost use Rattle.storage_spec.specs.Told.{has_dump as has_dump_by, has_panic as has_panic_by, kind_words as kind_by};
 ghost use Rattle.storage_spec.specs.Told.{fault_words as fault_by, fault_line as fault_line_by, fault_in, fault_lines};
-ghost use Rattle.storage_spec.specs.Told.{storage_lines as lines_by, size_fault_text as size_fault_by};
-ghost use Rattle.storage_spec.specs.Told.{size_fault_number as number_by};
+ghost use Rattle.storage_spec.specs.Told.{storage_lines as lines_by};
 
 use crate::listing::gives;
 use crate::zones::lying_zones;
 use psz_read::{data_of, dump_header, kernel_fault, zone_bytes};
-use psz_spec::{KernelFault, Kind, Machine, SizeFault, Sizes, Zone};
+use psz_spec::{KernelFault, Kind, Machine, Sizes, Zone};
 use std::alloc::{AllocError, Global};
 use storage_spec::Storage;
 
@@ -183,34 +182,4 @@ pub fn storage_lines(
     text.push_str(oopses_line(is_of_oopses(storage.machine, &zones, image)))?;
     push_faults(alloc, &mut text, storage.machine, &zones, image)?;
     Ok(text)
-}
-
-/// Why no kernel divides a storage by its sizes.
-pub fn size_fault_text(fault: SizeFault) -> &'static str
-    ensures { result.now ≡ size_fault_by fault }
-{
-    match fault {
-        SizeFault::TotalSmall => "it has fewer than 4096 bytes",
-        SizeFault::NoSize => "all sizes are 0",
-        SizeFault::TotalUneven => "it has no whole pages of 4096 bytes",
-        SizeFault::SizeUneven => "a size is no multiple of 512",
-        SizeFault::NoRoom => "its zones have no room",
-        SizeFault::FtraceSmall => "an ftrace zone would have fewer than 12 bytes",
-        SizeFault::NoDumpZone => "no dump zone has room",
-    }
-}
-
-/// The number of such a fault that a caller sees.
-pub fn size_fault_number(fault: SizeFault) -> u32
-    ensures { result ≡ number_by fault }
-{
-    match fault {
-        SizeFault::TotalSmall => 201,
-        SizeFault::NoSize => 202,
-        SizeFault::TotalUneven => 203,
-        SizeFault::SizeUneven => 204,
-        SizeFault::NoRoom => 205,
-        SizeFault::FtraceSmall => 206,
-        SizeFault::NoDumpZone => 207,
-    }
 }

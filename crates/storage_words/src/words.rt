@@ -2,13 +2,13 @@
 ghost use Rattle.std.specs.Prelude.{◌≡◌};
 ghost use Rattle.std.specs.List.{list_any};
 ghost use Rattle.grammar_spec.specs.Words.{texts};
-ghost use Rattle.storage_spec.specs.Words.{size_of as size_by, size_given, sizes_of, sizes_read as read_by};
-ghost use Rattle.storage_spec.specs.Words.{is_of_storage as is_of, storages_by as storages_of};
+ghost use Rattle.storage_words.specs.Words.{size_of as size_by, size_given, sizes_of, sizes_read as read_by};
+ghost use Rattle.storage_words.specs.Words.{is_of_storage as is_of, gives_size, storages_by as storages_of};
 
+use crate::Storages;
 use psz_read::kib_size;
 use psz_spec::Sizes;
 use ramoops_layout::{Keys, ParamFault};
-use storage_spec::Storages;
 
 const KEYS: Keys = Keys {
     prefix: "",
@@ -70,25 +70,20 @@ fn sizes_read(words: &[String]) -> Result<Sizes, ParamFault>
 pub fn is_of_storage(word: &str) -> bool
     ensures { result ≡ is_of word.now }
 {
-    word.starts_with("pstore_blk.")
+    word.as_bytes().starts_with(b"pstore_blk.")
 }
 
 // Whether one of the words is.
 fn gives_sizes(words: &[String]) -> bool
-    ensures { result ≡ list_any is_of (texts words.now) }
+    ensures { result ≡ list_any gives_size words.now }
 {
-    for word in words {
-        if is_of_storage(word) {
-            return true;
-        }
-    }
-    false
+    words.iter().any(|word| is_of_storage(word))
 }
 
 /// Which files are storages by these words: each, by the sizes that they give, if one of them begins with `pstore_blk.`
 /// (`fs/pstore/blk.c`, `module_param`); without words, those in which a dump stands. Sizes are in KiB. The first faulty
 /// word is an error.
-#[tactic(auto, unfolding(storage_spec::specs::Words::storages_by))]
+#[tactic(auto, unfolding(crate::specs::Words::storages_by))]
 pub fn storages_by(words: &[String]) -> Result<Storages, ParamFault>
     ensures { result ≡ storages_of words.now }
 {

@@ -1,12 +1,8 @@
--- Sizes in words, and storages that sizes divide
-use Rattle.std.specs.Prelude.{◌≡◌, ℕ, [], ◌∷◌, codes, Some, None, Err}
-use Rattle.psz_spec.specs.declared.SizeFault.TheVariants.{TotalSmall}
+-- Sizes in words: worked rows, with values typed by hand
+use Rattle.std.specs.Prelude.{◌≡◌, [], ◌∷◌, codes, Some}
 use Rattle.grammar_spec.specs.declared.faults.ParamFault.TheVariants.{UnknownKey, Twice}
 use Rattle.grammar_spec.specs.Words.{first_fault}
-use Rattle.storage_spec.specs.Found.{storage_of}
-use Rattle.storage_spec.specs.Told.{size_fault_text}
-use Rattle.storage_spec.specs.Words.{keys, size_of, sizes_of}
-use Rattle.psz_examples.specs.Listings.{storage}
+use Rattle.storage_words.specs.Words.{keys, size_of, sizes_of}
 
 -- in KiB: 16, and the kernel makes 4 of 5
 abbrev pub WordsRow : Type 0
@@ -35,10 +31,3 @@ TwiceRow = first_fault keys [] (codes "pstore_blk.kmsg_size=16" ∷ codes "pstor
 -- without its module a size could be in bytes
 abbrev pub BareRow : Type 0
 BareRow = first_fault keys [] (codes "kmsg_size=16" ∷ []) ≡ Some (UnknownKey 0)
-
--- 184 bytes
-abbrev pub SmallRow : Type 0
-SmallRow = storage_of (sizes_of []) storage ≡ Err TotalSmall
-
-abbrev pub FaultTextRow : Type 0
-FaultTextRow = size_fault_text TotalSmall ≡ codes "it has fewer than 4096 bytes"

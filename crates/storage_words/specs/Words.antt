@@ -1,6 +1,6 @@
 -- The sizes of a storage in words, as pstore_blk takes them (fs/pstore/blk.c, module_param)
 use Rattle.std.specs.Prelude.{ℕ, ◌^◌, ◌==◌, nat_lt, Bool, if◌then◌else◌, List, [], ◌∷◌, length, codes, unwrap_or}
-use Rattle.std.specs.Prelude.{Result, Ok, Err}
+use Rattle.std.specs.Prelude.{string_bytes, Result, Ok, Err}
 use Rattle.std.specs.List.{list_any}
 use Rattle.std.specs.declared.string.String.{String}
 use Rattle.std.specs.declared.alloc.Global.{Global}
@@ -9,8 +9,8 @@ use Rattle.grammar_spec.specs.Numbers.{begins}
 use Rattle.grammar_spec.specs.Words.{KeyTable, ok_unless, texts, first_fault, given}
 use Rattle.psz_spec.specs.declared.Sizes.{Sizes}
 use Rattle.psz_spec.specs.Parameters.{kib_size}
-use Rattle.storage_spec.specs.declared.Storages.{Storages}
-use Rattle.storage_spec.specs.declared.Storages.TheVariants.{Never, Shown, All}
+use Rattle.storage_words.specs.declared.Storages.{Storages}
+use Rattle.storage_words.specs.declared.Storages.TheVariants.{Never, Shown, All}
 
 -- the keys. `cpus` is the project's own: the number of processors, which no word of the kernel tells
 abbrev pub keys : KeyTable
@@ -52,6 +52,9 @@ sizes_read words = ok_unless (first_fault keys [] (texts words)) (sizes_of (text
 abbrev pub is_of_storage : List ℕ → Bool
 is_of_storage word = begins (codes "pstore_blk.") word
 
+abbrev pub gives_size : String Global → Bool
+gives_size word = is_of_storage (string_bytes word)
+
 abbrev pub by_sizes : Result Sizes ParamFault → Result Storages ParamFault
 by_sizes (Ok sizes) = Ok (All sizes)
 by_sizes (Err fault) = Err fault
@@ -59,5 +62,5 @@ by_sizes (Err fault) = Err fault
 -- each, if one of the words is the module's; without a word, those in which a dump stands
 unfoldable pub storages_by : List (String Global) → Result Storages ParamFault
 storages_by words =
-    if list_any is_of_storage (texts words) then by_sizes (sizes_read words)
+    if list_any gives_size words then by_sizes (sizes_read words)
     else Ok (if length words == 0 then Shown else Never)
