@@ -7,7 +7,7 @@ ghost use Rattle.storage_report.specs.Held.{IsLookedAt};
 ghost use Rattle.report_entry.specs.Storages.{with_storage_words as with_words, IsLineFault, IsUnheld};
 ghost use Rattle.report_entry.specs.Storages.{storages_in as storages_of};
 ghost use Rattle.report_entry.specs.Memory.{image_bytes};
-ghost use Rattle.report_entry.specs.Storages.{no_storage as no_storage_of, IsStorageReport};
+ghost use Rattle.report_entry.specs.Storages.{no_storage as no_storage_of, is_sought as is_sought_of, IsStorageReport};
 
 use crate::memory::{Image, Text};
 use crate::reports::{Refusal, Reported};
@@ -76,6 +76,15 @@ fn no_storage(none: NoStorage) -> Refusal
     }
 }
 
+fn is_sought(storages: Storages) -> bool
+    ensures { result ≡ is_sought_of storages }
+{
+    match storages {
+        Storages::Never => false,
+        Storages::Shown | Storages::All(_) => true,
+    }
+}
+
 // The storage that a copy of the image is.
 fn held_in(alloc: Global, storages: Storages, mut image: Image) -> Result<Option<HeldStorage>, Refusal>
     ensures { MatchResult result (IsLookedAt storages (Some (image_bytes image))) (IsUnheld storages (image_bytes image)) }
@@ -94,7 +103,7 @@ pub fn storage_in(
 ) -> Result<Option<HeldStorage>, Refusal>
     ensures { MatchResult result (IsLookedAt storages (Some image.now)) (IsUnheld storages image.now) }
 {
-    if matches!(storages, Storages::Never) {
+    if !is_sought(storages) {
         return Ok(None);
     }
     let image = Image::new(Bytes::copy_of(alloc, image)?);
