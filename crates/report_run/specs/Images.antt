@@ -1,5 +1,5 @@
 -- The report of one image, and why there is none
-use Rattle.std.specs.Prelude.{◌≡◌, ◌⊎◌, ◌≤◌, ℕ, List, Option, string_bytes}
+use Rattle.std.specs.Prelude.{◌≡◌, ◌⊎◌, ◌≤◌, ℕ, List, Option, Some, string_bytes}
 use Rattle.std.specs.Io.KnownBytes.{Appends}
 use Rattle.outside.specs.Outside.{Rose, AppendsFront}
 use Rattle.command_spec.specs.declared.Stop.{Stop}
@@ -53,12 +53,10 @@ pub record IsStopped (format : Format) (path : List ℕ) (plan : Plan) (holds : 
   pub cause : IsNotReported format path plan stop holds read_before read_now given now put_before put_now
   pub why_is : why ≡ stop_failure stop
 
--- the same, of bytes in memory
-pub record IsStoppedAt (format : Format) (path : List ℕ) (plan : Plan) (holds given now : Option (List ℕ))
-    (put_before put_now : ℕ) (why : Failure) : Type 0 where
-  pub read_before : ℕ
-  pub read_now : ℕ
-  pub cause : IsStopped format path plan holds read_before read_now given now put_before put_now why
+-- the same, of bytes in memory, whose reading does not fail
+abbrev pub IsStoppedAt : Format → List ℕ → Plan → List ℕ → Option (List ℕ) → Option (List ℕ) → ℕ → ℕ → Failure → Type 0
+IsStoppedAt format path plan bytes given now put_before put_now why =
+    IsStopped format path plan (Some bytes) 0 0 given now put_before put_now why
 
 -- ---- an image whose layout is looked for
 

@@ -1,4 +1,5 @@
 pub mod Failures
+pub mod ReadOnly
 pub mod Messages
 pub mod Plans
 pub mod Images

@@ -63,7 +63,7 @@ pub record IsPlaceStopped (asked : Asked) (plan : Plan) (name : List ℕ) (place
     : Type 0 where
   pub bytes : List ℕ
   pub held : IsHeld place plan.mem holds bytes
-  pub cause : IsStoppedAt asked.format name plan (Some bytes) given now put_before put_now why
+  pub cause : IsStoppedAt asked.format name plan bytes given now put_before put_now why
   pub unmade : made_now ≡ made
 
 -- or its records were not saved

@@ -85,6 +85,7 @@ fn sought_report<M: Load, O: Sink, E: Sink>(
         (seen (E.given messages.old.errors) (E.faults messages.old.errors) messages.old.is_lost)
         (seen (E.given messages.new.errors) (E.faults messages.new.errors) messages.new.is_lost)) }
     ensures same { M.holds image.new ≡ M.holds image.old }
+    ensures later { M.faults image.old ≤ M.faults image.new }
 {
     let told = sought_plan(alloc, asked, known, path, image)?;
     tell_layout(asked.format, &told.hint, out, messages)?;
@@ -110,6 +111,7 @@ fn unlogged_report<M: Load, O: Sink, E: Sink>(
         (seen (E.given messages.old.errors) (E.faults messages.old.errors) messages.old.is_lost)
         (seen (E.given messages.new.errors) (E.faults messages.new.errors) messages.new.is_lost)) }
     ensures same { M.holds image.new ≡ M.holds image.old }
+    ensures later { M.faults image.old ≤ M.faults image.new }
 {
     match storage_of(alloc, asked.storages, image) {
         Ok(Some(storage)) => report_storage(alloc, asked, &storage, path, out, messages),
@@ -137,6 +139,7 @@ fn unknown_report<M: Load, O: Sink, E: Sink>(
         (seen (E.given messages.old.errors) (E.faults messages.old.errors) messages.old.is_lost)
         (seen (E.given messages.new.errors) (E.faults messages.new.errors) messages.new.is_lost)) }
     ensures same { M.holds image.new ≡ M.holds image.old }
+    ensures later { M.faults image.old ≤ M.faults image.new }
 {
     match held_log(alloc, asked.logs, image) {
         Ok(Some(log)) => report_log(alloc, asked, log, path, out),
@@ -165,6 +168,7 @@ pub fn report_image<M: Load, O: Sink, E: Sink>(
         (seen (E.given messages.old.errors) (E.faults messages.old.errors) messages.old.is_lost)
         (seen (E.given messages.new.errors) (E.faults messages.new.errors) messages.new.is_lost)) }
     ensures same { M.holds image.new ≡ M.holds image.old }
+    ensures later { M.faults image.old ≤ M.faults image.new }
 {
     match &asked.layouts {
         Layouts::Given(plan) => report_by(alloc, plan, asked.format, path, image, out),

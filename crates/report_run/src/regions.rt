@@ -12,12 +12,13 @@ use crate::images::{report_by, tell_layout};
 use crate::messages::Messages;
 use crate::places::larger_line;
 use crate::plans::{Asked, dressed};
+use crate::read_only::ReadOnly;
 use crate::records::{Records, save_asked};
 use found_regions::Region;
 use memory_regions::window;
-use outside::{Bytes, Load, Sink};
+use outside::{Load, Sink};
 use region_report::Report;
-use report_entry::{Image, taken_hint};
+use report_entry::taken_hint;
 use report_tool::{Format, Found, Plan};
 use std::alloc::{AllocError, Global};
 
@@ -56,10 +57,10 @@ fn report_bytes<O: Sink>(
 ) -> Result<Report, Failure>
     ensures { MatchResult result
         (IsReported asked.now.format name.now plan.now (Some bytes.items) (O.given out.old) (O.given out.new))
-        (IsStoppedAt asked.now.format name.now plan.now (Some bytes.items) (O.given out.old) (O.given out.new)
+        (IsStoppedAt asked.now.format name.now plan.now bytes.items (O.given out.old) (O.given out.new)
         (O.faults out.old) (O.faults out.new)) }
 {
-    let mut image = Image::new(Bytes::from_vec(bytes));
+    let mut image = ReadOnly::new(bytes);
     report_by(alloc, plan, asked.format, name, &mut image, out)
 }
 

@@ -3,7 +3,7 @@ ghost use Rattle.std.specs.Prelude.{Some, None};
 
 use outside::{Bytes, Calls, MemSink};
 use region_report::Report;
-use report_entry::{Image, Layouts};
+use report_entry::Layouts;
 use report_run::*;
 use report_tool::{Format, Known, known};
 use std::alloc::Global;
@@ -17,13 +17,17 @@ struct Held {
 }
 
 impl Images for Held {
-    type Image = Image;
+    type Image = ReadOnly;
 
     ghost content = { λ s _ _. Some s.bytes };
 
-    fn open(&mut self, _path: &str, _wanted: Wanted) -> Result<Image, Failure> {
-        Ok(Image::new(Bytes::copy_of(self.alloc, self.bytes.as_slice())?))
+    ghost faults = { λ _. 0 };
+
+    fn open(&mut self, _path: &str, _wanted: Wanted) -> Result<ReadOnly, Failure> {
+        Ok(ReadOnly::new(Vec::from_slice(self.alloc, self.bytes.as_slice())?))
     }
+
+    fn close(&mut self, _image: ReadOnly) {}
 }
 
 // A folder that takes every record.
