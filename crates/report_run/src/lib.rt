@@ -24,3 +24,4 @@ pub use plans::{Asked, Logs, Wanted, WholeMemory, dressed};
 pub use read_only::ReadOnly;
 pub use records::Records;
 pub use running::{Images, run, status_of};
+pub use storage_words::Storages;

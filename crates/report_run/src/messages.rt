@@ -1,13 +1,15 @@
 // Lines to standard error.
 ghost use Rattle.std.specs.Prelude.{◌≡◌, [], ◌∷◌, codes, false};
 ghost use Rattle.report_run.specs.Messages.{seen, IsTold, AreTold, place_line, IsCounted, IsEnded, line_of, short_line};
-ghost use Rattle.report_run.specs.Messages.{beyond_line, several_line, part_line, IsPartTold};
+ghost use Rattle.report_run.specs.Messages.{beyond_line, several_line, part_line, IsPartTold, undivided_line};
 ghost use Rattle.report_run.specs.Messages.{IsBestTold, IsMessage};
 
 use crate::failures::Failure;
 use itoa::Buffer;
 use outside::Sink;
+use psz_spec::SizeFault;
 use region_report::TextFault;
+use storage_words::size_fault_text;
 
 /// Standard error. A piece of a line that it does not take costs no report, and is remembered.
 #[derive(Drop)]
@@ -164,6 +166,19 @@ impl<E: Sink> Messages<E> {
         self.tell(b"\n");
     }
 
+    // The line on a storage that no kernel divides by the sizes that words give.
+    fn tell_undivided(&mut self, path: &str, fault: SizeFault)
+        ensures { AreTold (undivided_line path.now fault)
+            (seen (E.given self.old.errors) (E.faults self.old.errors) self.old.is_lost)
+            (seen (E.given self.new.errors) (E.faults self.new.errors) self.new.is_lost) }
+    {
+        self.tell(b"oopsreport: ");
+        self.tell(path.as_bytes());
+        self.tell(b": the kernel takes no such sizes: ");
+        self.tell(size_fault_text(fault).as_bytes());
+        self.tell(b"\n");
+    }
+
     // The line on the best layout, and why it is not taken.
     fn tell_best(&mut self, path: &str, best: &str, why: &str)
         ensures { IsBestTold best.now (line_of path.now why.now)
@@ -215,10 +230,16 @@ impl<E: Sink> Messages<E> {
                     "no layout explains what stands at that place; give it by --param",
                 );
             }
-            Failure::NoRegion => self.tell_line(path, "no region was found"),
+            Failure::NoRegion => {
+                self.tell_line(
+                    path,
+                    "no region was found; --memory looks for ramoops regions alone",
+                );
+            }
             Failure::Several(places) => self.tell_several(path, places),
             Failure::NoPlace => self.tell_line(path, "no place is named"),
             Failure::Beyond { has, size, place } => self.tell_beyond(path, *has, *size, *place),
+            Failure::Undivided(fault) => self.tell_undivided(path, *fault),
         }
     }
 }

@@ -81,7 +81,7 @@ fn asked(
         lines: 10,
         map: None,
         logs,
-        storages: false,
+        storages: Storages::Never,
         memory,
         saves,
         counts: false,
@@ -181,7 +181,7 @@ fn refusals_of_a_memory(rt: HostRuntime) -> Result<(), Fail> {
             Format::Text,
             WHOLE,
             [].as_slice(),
-            "oopsreport: file: no region was found\n",
+            "oopsreport: file: no region was found; --memory looks for ramoops regions alone\n",
         ),
         (
             Format::Text,

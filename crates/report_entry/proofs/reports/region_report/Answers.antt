@@ -2,7 +2,7 @@
 use Rattle.std.proofs.Common.{◌∙◌}
 use Rattle.report_entry.specs.Memory.{image_bytes}
 use Rattle.report_entry.proofs.PlanFaults.{report_ended}
-use Rattle.report_entry.proofs.reports.report_of.Goals as goal
+use Rattle.report_entry.proofs.reports.region_report.Goals as goal
 
 pub returns : goal.returns
 returns c =
