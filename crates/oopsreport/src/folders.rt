@@ -3,9 +3,9 @@ ghost use Rattle.std.specs.Prelude.{None};
 
 use folder_files::{Folders, Kind};
 use std::alloc::{AllocError, Global};
+use std::fs;
 use std::io::{self, ErrorKind};
 use std::rt::Runtime;
-use std::fs;
 
 /// What stands at paths of the system, where `-` is standard input. It tells no content.
 #[derive(Drop)]
