@@ -1,5 +1,5 @@
 -- How a script on an image ends, by what its lines leave
-use Rattle.std.proofs.Common.{◌≡◌, ℕ, ◌+◌, ◌≤◌, List, [], ◌++◌, length, take, Option, Result, Ok, Err, IfSome, refl}
+use Rattle.std.proofs.Common.{◌≡◌, ℕ, ◌+◌, ◌≤◌, List, [], ◌++◌, length, take, Option, Ok, Err, IfSome, refl}
 use Rattle.std.proofs.Common.{sym, ap, ◌∙◌, inr, arith, append-nil, length-append}
 use Rattle.std.proofs.Math.Seq.{take-append-add, take-length}
 use Rattle.std.proofs.KnownBytes.{Appends-trans}
@@ -17,7 +17,7 @@ use Rattle.script_spec.specs.declared.LineStop.{LineStop}
 use Rattle.script_spec.specs.declared.LineStop.TheVariants.{Memory as MemoryThere, StoreFault}
 use Rattle.script_spec.specs.declared.LineStop.TheVariants.{SinkFault as SinkFaultThere, Refused as RefusedThere}
 use Rattle.command_spec.specs.Ends.{End, status_of, stop_of}
-use Rattle.command_spec.specs.Commands.{Run, RamPlan, RunsScript, class_of, OfRam, Wanted, wanted}
+use Rattle.command_spec.specs.Commands.{Run, RamPlan, OfRam, Wanted, wanted}
 use Rattle.command_spec.specs.Commands.{wanted_run, wanted_script, mem_of}
 use Rattle.command_spec.specs.Answers.{Outside, Later}
 use Rattle.command_spec.specs.PlanAnswers.{ram_statuses, IsAmong}
@@ -60,21 +60,23 @@ scripted (Shared booted layout) = record {
 
 -- ---- the work
 
-module _ (plan : RamPlan) (is : class_of plan.command ≡ RunsScript) (a b : Outside) where
+module _ (session : Session) (a b : Outside) where
   pub work_done : (e : End) → Later a b → Caused a b e → Counted a b e → KeptAt a.holds b.holds e
-      → KeptAt a.writes b.writes e → RunEnds plan a b e → WorkDone (Ok (OfRam plan)) a b e
+      → KeptAt a.writes b.writes e → RunEnds (session_plan session) a b e
+      → WorkDone (Ok (OfRam (session_plan session))) a b e
   work_done e later caused counts kept asks ended = record {
     later = later;
     caused = caused;
     counts = counts;
     kept = λ w. kept;
-    asks = rw is asks;
-    ended = rw is ended;
+    asks = rw (scripted session).class asks;
+    ended = rw (scripted session).class ended;
   }
 
   -- the image was not written
   pub work_stopped : (s : Stop) → Later a b → Caused a b (Err s) → Counted a b (Err s) → b.holds ≡ a.holds
-      → b.writes ≡ a.writes → RunEnds plan a b (Err s) → WorkDone (Ok (OfRam plan)) a b (Err s)
+      → b.writes ≡ a.writes → RunEnds (session_plan session) a b (Err s)
+      → WorkDone (Ok (OfRam (session_plan session))) a b (Err s)
   work_stopped s later caused counts same unwritten ended =
       work_done (Err s) later caused counts (kept_same (Err s) a.holds b.holds same)
       (kept_same (Err s) a.writes b.writes unwritten) ended
@@ -126,18 +128,25 @@ put_some texts before text old mid new e put part =
       });
     }
 
-module _ (plan : RamPlan) (want : List ℕ → Result (List Line) ℕ → Wanted) (is : IsScripted plan want) (a b : Outside)
-    (image : List ℕ) (l : Loaded plan a image) (lines : List Line) (r : ReadLines lines a.left b.left) where
+module _ (session : Session) (a b : Outside) (image : List ℕ) (l : Loaded (session_plan session) a image)
+    (lines : List Line) (r : ReadLines lines a.left b.left) where
+  abbrev plan : RamPlan
+  plan = session_plan session
+
+  abbrev w : Wanted
+  w = session_wants session image (Ok lines)
+
   room : IfSome a.holds (λ bs. mem_of plan ≤ length bs)
   room = room_in plan a image l
 
   ended : (e : End) → IsAmong (ram_statuses Run) (status_of e) → ScriptEnds (mem_of plan) a b e
-      → Ended (want image (Ok lines)) a b e → WrittenAt (want image (Ok lines)) a b e → RunEnds plan a b e
-  ended e can read h written = lines_ended plan want is a b image l lines r e can read h written
+      → Ended w a b e → WrittenAt w a b e → RunEnds plan a b e
+  ended e can read h written =
+      lines_ended plan (session_wants session) (scripted session) a b image l lines r e can read h written
 
   -- not all were done
   pub lines_stopped : (s : Stop) (h h' : ℕ) → b.holds ≡ a.holds
-      → LinesLeave (want image (Ok lines)) a.given b.given h h' (Err s) → RunEnds plan a b (Err s)
+      → LinesLeave w a.given b.given h h' (Err s) → RunEnds plan a b (Err s)
   lines_stopped Memory h h' same put = ended (Err Memory) refl (read_memory (mem_of plan) a b room) (put, same) tt
   lines_stopped SinkFault h h' same put =
       ended (Err SinkFault) refl (read_unput (mem_of plan) a b room lines r) (put.1, same) tt
@@ -148,13 +157,13 @@ module _ (plan : RamPlan) (want : List ℕ → Result (List Line) ℕ → Wanted
 
   -- all were done
   module _ (mid : Option (List ℕ)) (text last : List ℕ)
-      (left : AllLeft (want image (Ok lines)) a.given mid text last) where
+      (left : AllLeft w a.given mid text last) where
     pub text_unput : b.holds ≡ a.holds → AppendsFront mid b.given text → RunEnds plan a b (Err SinkFault)
     text_unput same put = ended (Err SinkFault) refl (read_unput (mem_of plan) a b room lines r)
-        (put_some (want image (Ok lines)).texts left.before text a.given mid b.given left.texts left.put put, same) tt
+        (put_some w.texts left.before text a.given mid b.given left.texts left.put put, same) tt
 
     module _ (put : Appends mid b.given text) where
-      shown : Appends a.given b.given (whole (want image (Ok lines)).texts)
+      shown : Appends a.given b.given (whole w.texts)
       shown = rw left.texts (Appends-trans a.given mid b.given left.before text left.put put)
 
       pub image_saved : Writes a.holds b.holds 0 last → RunEnds plan a b (Ok tt)

@@ -51,8 +51,8 @@ fn play_lines<O: Sink>(
     requires size { vec_len image ≡ (params_of layout).mem }
     requires fields { AllHaveFields lines }
     requires few { length lines < 2 ^ 32 }
-    ensures left { LinesLeave (wanted_script (zones_of layout) image.items (Ok lines)) (O.given out.old) (O.given out.new)
-        (O.faults out.old) (O.faults out.new) result }
+    ensures left { LinesLeave (wanted_script (zones_of layout) image.items (Ok lines)) (O.given out.old)
+        (O.given out.new) (O.faults out.old) (O.faults out.new) result }
     ensures counts { KeptUnless Stop.SinkFault result (O.faults out.old) (O.faults out.new) }
     ensures later { O.faults out.old ≤ O.faults out.new }
 {

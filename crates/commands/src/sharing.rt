@@ -46,8 +46,8 @@ pub fn share(
     requires plain { CanShareIn booted layout }
     requires fields { AllHaveFields lines }
     requires few { length lines < 2 ^ 32 }
-    ensures { (given : Option (List ℕ)) (h : ℕ) → LinesLeave (wanted_shared_lines (zones_of booted) image.items (Ok lines))
-        given given h h result }
+    ensures { (given : Option (List ℕ)) (h : ℕ)
+        → LinesLeave (wanted_shared_lines (zones_of booted) image.items (Ok lines)) given given h h result }
 {
     let image = match booted_image(alloc, booted, image) {
         Ok(image) => image,
