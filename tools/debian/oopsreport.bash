@@ -17,7 +17,7 @@ _oopsreport()
         *)
             if [[ $word == -* ]]; then
                 mapfile -t COMPREPLY < <(compgen -W "--param --cmdline --cmdline-file --kernel --dtb --node --mem-as-given --region --memory --at --memory-at
-                    --symbols --lines --color --format --json --html --brief --save --help --version" -- "$word")
+                    --symbols --recursive --lines --color --format --json --html --brief --save --help --version" -- "$word")
             else
                 mapfile -t COMPREPLY < <(compgen -f -- "$word")
                 compopt -o filenames

@@ -113,6 +113,8 @@ fn open<R: Runtime, S: Read>(
     }
     let metadata = fs::metadata(rt, path)?;
     if metadata.is_dir() {
+        // Why its names could not be read.
+        fs::read_dir(rt, path)?;
         bail!("it is a folder");
     }
     if metadata.is_file() {

@@ -4,6 +4,7 @@ pub mod Messages
 pub mod Plans
 pub mod Images
 pub mod Logs
+pub mod Packed
 pub mod Storages
 pub mod Reports
 pub mod Places

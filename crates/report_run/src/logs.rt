@@ -23,7 +23,7 @@ use text_log::is_text_log;
 const FRONT: u32 = 65_536;
 
 /// So many bytes of a log are read.
-const MOST_LOG: u32 = 268_435_456;
+pub const MOST_LOG: u32 = 268_435_456;
 
 const MOST: u64 = 268_435_456;
 

@@ -81,7 +81,7 @@ fn asked(
         lines: 10,
         map: None,
         logs,
-        storages: false,
+        storages: Storages::Never,
         memory,
         saves,
         counts: false,
@@ -100,9 +100,9 @@ fn sink(alloc: Global) -> Result<MemSink, Fail> {
     Ok(MemSink::new(alloc, 65_536, Calls::new(alloc, &[])?)?)
 }
 
-fn run_on(alloc: Global, asked: &Asked, bytes: Vec<u8>) -> Result<Done, Fail> {
+fn run_at(alloc: Global, asked: &Asked, path: &str, bytes: Vec<u8>) -> Result<Done, Fail> {
     let mut paths = Vec::new(alloc);
-    paths.push(String::from_str(alloc, "file")?)?;
+    paths.push(String::from_str(alloc, path)?)?;
     let mut held = Held {
         alloc,
         bytes: Bytes::from_vec(bytes),
@@ -125,6 +125,10 @@ fn run_on(alloc: Global, asked: &Asked, bytes: Vec<u8>) -> Result<Done, Fail> {
         errors: Vec::from_slice(alloc, messages.errors.bytes())?,
         has_failed,
     })
+}
+
+fn run_on(alloc: Global, asked: &Asked, bytes: Vec<u8>) -> Result<Done, Fail> {
+    run_at(alloc, asked, "file", bytes)
 }
 
 // A memory of four pages, with a console of three bytes at each of these.
@@ -177,7 +181,7 @@ fn refusals_of_a_memory(rt: HostRuntime) -> Result<(), Fail> {
             Format::Text,
             WHOLE,
             [].as_slice(),
-            "oopsreport: file: no region was found\n",
+            "oopsreport: file: no region was found; --memory looks for ramoops regions alone\n",
         ),
         (
             Format::Text,
@@ -209,6 +213,40 @@ fn logs_with_zero_bytes(rt: HostRuntime) -> Result<(), Fail> {
         assert!(rt; done.has_failed != is_log);
         let has_panic = begins_and_has(&done.out, "died: Kernel panic", "console-ramoops-0\n")?;
         assert!(rt; has_panic == is_log);
+    }
+    Ok(())
+}
+
+// What zlib makes of `<1>[    1.000000] kernel BUG at x.c:1!` and a newline, raw.
+const PACKED: [u8; 36] = [
+    0xb3, 0x31, 0xb4, 0x8b, 0x56, 0x00, 0x02, 0x43, 0x3d, 0x03, 0x30, 0x88, 0x55, 0xc8, 0x4e, 0x2d,
+    0xca, 0x4b, 0xcd, 0x51, 0x70, 0x0a, 0x75, 0x57, 0x48, 0x2c, 0x51, 0xa8, 0xd0, 0x4b, 0xb6, 0x32,
+    0x54, 0xe4, 0x02, 0x00,
+];
+
+#[test]
+fn packed_records(rt: HostRuntime) -> Result<(), Fail> {
+    for (len, front, words) in [
+        (36, "died: kernel BUG at x.c:1!\n", ""),
+        (
+            30,
+            "died: kernel BUG at x",
+            "oopsreport: a.enc.z: inflated in part: end of input\n",
+        ),
+        (
+            1,
+            "",
+            "oopsreport: a.enc.z: nothing of this packed record inflates\n",
+        ),
+    ] {
+        let asked = asked(known(&[]), Format::Text, Logs::Texts, None, false);
+        let mut bytes = Vec::from_slice(rt.alloc(), &PACKED)?;
+        bytes.truncate(len);
+        let done = run_at(rt.alloc(), &asked, "a.enc.z", bytes)?;
+        assert!(rt;
+            done.out.starts_with(front.as_bytes()) && done.errors.as_slice() == words.as_bytes()
+        );
+        assert!(rt; done.has_failed == done.out.is_empty());
     }
     Ok(())
 }
