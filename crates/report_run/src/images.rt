@@ -42,7 +42,7 @@ pub fn tell_layout<O: Sink, E: Sink>(
             Err(Failed) => Err(Failure::Unwritten),
         },
         Format::Brief => Ok(()),
-        Format::Json | Format::Html => {
+        _ => {
             messages.tell(lines.as_bytes());
             Ok(())
         }

@@ -168,10 +168,7 @@ warnings_parts warnings = flat_map warning_parts warnings
 
 -- the words of a layout that explains the image better, if there are any
 abbrev pub better_parts : List ℕ → List Part
-better_parts [] = []
-better_parts (b ∷ bs) =
-    Words (codes "  careful    another layout explains it better, by these words alone: ") ∷ Bytes (b ∷ bs)
-    ∷ Words (codes "\n") ∷ []
+better_parts words = bytes_fact (codes "  careful    another layout explains it better, by these words alone: ") words
 
 -- ---- one line
 

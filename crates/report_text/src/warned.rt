@@ -4,6 +4,7 @@ ghost use Rattle.report_text.specs.Pieces.{parts};
 ghost use Rattle.report_text.specs.Facts.{counted_warning, lacking, plain_warning, warning_parts, warnings_parts};
 ghost use Rattle.report_text.specs.Facts.{better_parts};
 
+use crate::facts::add_bytes;
 use crate::pieces::{Piece, add};
 use region_report::Warning;
 use std::alloc::AllocError;
@@ -88,15 +89,9 @@ pub fn add_warnings(pieces: &mut Vec<Piece<'_>>, warnings: &[Warning]) -> Result
 pub fn add_better<'a>(pieces: &mut Vec<Piece<'a>>, better: &'a [u8]) -> Result<(), AllocError>
     ensures { OnOk result (parts pieces.new.items ≡ parts pieces.old.items ++ better_parts better.entry.now) }
 {
-    if better.is_empty() {
-        return Ok(());
-    }
-    add(
+    add_bytes(
         pieces,
-        &[
-            Piece::Own("  careful    another layout explains it better, by these words alone: "),
-            Piece::Foreign(better),
-            Piece::Own("\n"),
-        ],
+        "  careful    another layout explains it better, by these words alone: ",
+        better,
     )
 }

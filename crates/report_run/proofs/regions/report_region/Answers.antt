@@ -1,5 +1,5 @@
 -- The report stops, or the lines fail behind it. For `report_region`.
-use Rattle.std.proofs.Common.{◌≡◌, ℕ, rules, inl, inr, refl, subst}
+use Rattle.std.proofs.Common.{ℕ, rules, inl, inr, refl, subst}
 use Rattle.std.specs.Prelude.{string_bytes}
 use Rattle.report_run.specs.Messages.{seen}
 use Rattle.report_run.specs.States.{state}
@@ -48,3 +48,18 @@ returns-in_err-tell_region-clause-done g c =
           c.in_err-tell_region.ensures;
     })) in
     search rules
+
+pub returns-clause-done : goal.returns-clause-done
+returns-clause-done g c = record {
+  told = c.in_ok-told.told;
+  is_told = c.in_ok-told.ensures;
+  between = g.O.Sink.given c.report_place.new.out;
+  done = c.in_ok-report_place.ensures.done;
+  lines = subst (λ (p : ℕ). TellsLayout c.args.asked.now.format (string_bytes c.in_ok-told.told.lines)
+      (g.O.Sink.given c.report_place.new.out) (g.O.Sink.given c.tell_region.new.out) p
+      (g.O.Sink.faults c.tell_region.new.out)
+      (seen (g.E.Sink.given c.args.messages.now.errors) (g.E.Sink.faults c.args.messages.now.errors)
+      c.args.messages.now.is_lost)
+      (seen (g.E.Sink.given c.tell_region.new.messages.errors) (g.E.Sink.faults c.tell_region.new.messages.errors)
+      c.tell_region.new.messages.is_lost)) c.in_ok-report_place.ensures.faultless c.in_ok-tell_region.ensures;
+}
