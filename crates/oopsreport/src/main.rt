@@ -21,7 +21,7 @@ use layout::{Asked, NoPlan, Terminal, asked_by, format};
 use memory::Progress;
 use outside::{Sink, WriterSink};
 use report_colours::ColourSink;
-use report_run::{Messages, status_of};
+use report_run::{Messages, format_for, status_of};
 use report_tool::Format;
 use std::alloc::{AllocError, Global};
 use std::io::{IsTerminal, Read};
@@ -128,14 +128,15 @@ fn run<R: Runtime, S: Read + Drop, E: Sink>(
     };
     let mut tree = Tree::new(rt.clone()?, alloc);
     let named = paths_of(alloc, &matches)?;
-    let paths = files_of(alloc, &named, matches.get_flag("recursive"), &mut tree)?.paths;
-    if paths.len() > 1 && format(&matches) == Format::Html {
+    let files = files_of(alloc, &named, matches.get_flag("recursive"), &mut tree)?;
+    if files.paths.len() > 1 && format(&matches) == Format::Html {
         let error = command(alloc)?.error(ErrorKind::TooManyValues, "a page shows one image")?;
         error.print(rt)?;
         return Ok(WRONG_WORDS);
     }
     match asked_by(rt, alloc, &matches, terminal) {
-        Ok(asked) => {
+        Ok(mut asked) => {
+            asked.images.format = format_for(files.has_folder, asked.images.format);
             let mut images = System::new(rt.clone()?, alloc, input);
             let mut records = Named::new(rt.clone()?, alloc, folder_named(alloc, &matches)?);
             all_files(
@@ -145,7 +146,7 @@ fn run<R: Runtime, S: Read + Drop, E: Sink>(
                 &mut images,
                 &asked,
                 &mut records,
-                &paths,
+                &files.paths,
             )
         }
         Err(NoPlan::Memory) => Err(AllocError.into()),

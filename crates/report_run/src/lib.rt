@@ -20,7 +20,7 @@ mod storages;
 pub use failures::Failure;
 pub use found_regions::Watch;
 pub use messages::Messages;
-pub use plans::{Asked, Logs, Wanted, WholeMemory, dressed};
+pub use plans::{Asked, Logs, Wanted, WholeMemory, dressed, format_for};
 pub use read_only::ReadOnly;
 pub use records::Records;
 pub use running::{Images, run, status_of};

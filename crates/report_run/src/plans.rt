@@ -1,7 +1,8 @@
 // The plan by which an image is read whose layout is looked for.
 ghost use Rattle.std.specs.Prelude.{◌≡◌, ◌≤◌, IfOk, MatchResult};
 ghost use Rattle.std.specs.Option.{option_copied};
-ghost use Rattle.report_run.specs.Plans.{dressed, map_of, untaken_failure, IsSoughtPlan, IsNotSought, IsAskedPlan};
+ghost use Rattle.report_run.specs.Plans.{format_for, dressed, map_of};
+ghost use Rattle.report_run.specs.Plans.{untaken_failure, IsSoughtPlan, IsNotSought, IsAskedPlan};
 
 use crate::failures::{Failure, stop_failure};
 use outside::Load;
@@ -60,6 +61,16 @@ pub struct Asked {
     pub saves: bool,
     /// Whether standard error is told how many of several images are done.
     pub counts: bool,
+}
+
+/// The format in which files are reported: of a folder's files a text has one line each.
+pub fn format_for(has_folder: bool, format: Format) -> Format
+    ensures { result ≡ format_for has_folder format }
+{
+    match format {
+        Format::Text if has_folder => Format::Brief,
+        format => format,
+    }
 }
 
 /// A plan with so many lines, and with the functions of this map.
