@@ -134,16 +134,7 @@ fn storage() -> [u8; 8192] {
 // The status of the storage's report by words, and what it tells.
 fn reported(alloc: Global, words: &[u8], text: &mut [u8]) -> (u32, ReportAnswer) {
     let mut answer = ReportAnswer::default();
-    let status = oopsbox_report(
-        alloc,
-        b"here",
-        words,
-        b"",
-        &storage(),
-        0,
-        text,
-        &mut answer,
-    );
+    let status = oopsbox_report(alloc, b"here", words, b"", &storage(), 0, text, &mut answer);
     (status, answer)
 }
 
@@ -152,7 +143,9 @@ fn a_storage_is_reported(rt: HostRuntime) -> Result<(), Fail> {
     let mut text = [b'-'; 4096];
     assert!(rt; reported(rt.alloc(), b"", &mut text).0 == 0);
     assert!(rt;
-        text.starts_with(b"here: 8192 bytes; a storage of pstore_zone: kmsg_size=8192 console_size=0 ".as_slice())
+        text.starts_with(
+            b"here: 8192 bytes; a storage of pstore_zone: kmsg_size=8192 console_size=0 ".as_slice()
+        )
     );
     let (status, answer) = reported(rt.alloc(), b"pstore_blk.kmsg_size=64", &mut text);
     assert!(rt; (status, answer.fault, answer.word) == (3, 207, 0));

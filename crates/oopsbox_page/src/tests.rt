@@ -73,7 +73,9 @@ fn a_storage_is_reported(rt: HostRuntime) -> Result<(), Fail> {
     assert!(rt; status == 0);
     assert!(rt; answer.hint == 190);
     assert!(rt;
-        text.starts_with(b"here: 8192 bytes; a storage of pstore_zone: kmsg_size=4096 console_size=0 ".as_slice())
+        text.starts_with(
+            b"here: 8192 bytes; a storage of pstore_zone: kmsg_size=4096 console_size=0 ".as_slice()
+        )
     );
     Ok(())
 }

@@ -83,7 +83,11 @@ fn no_storage(none: NoStorage) -> Refusal
 }
 
 // The storage that a copy of the image is.
-fn held_in(alloc: Global, storages: Storages, mut image: Image) -> Result<Option<HeldStorage>, Refusal>
+fn held_in(
+    alloc: Global,
+    storages: Storages,
+    mut image: Image,
+) -> Result<Option<HeldStorage>, Refusal>
     ensures { MatchResult result (IsLookedAt storages (Some (image_bytes image))) (IsUnheld storages (image_bytes image)) }
 {
     match held_storage(alloc, storages, &mut image) {

@@ -6,10 +6,9 @@ mod division;
 mod laws;
 mod words;
 
-use psz_spec::Sizes;
-
 pub use division::{size_fault_number, size_fault_text, storage_of};
 pub use laws::words_compute;
+use psz_spec::Sizes;
 pub use words::{is_of_storage, storages_by};
 
 /// Which files are storages.
