@@ -1,5 +1,5 @@
 -- Which images are storages of the kernel's pstore_zone, and the report of one
-use Rattle.std.specs.Prelude.{◌≡◌, ℕ, Bool, true, false, if◌then◌else◌, ◌==◌, List, [], ◌++◌, length, Some, Result, Ok, Err}
+use Rattle.std.specs.Prelude.{◌≡◌, ⊤, ℕ, true, if◌then◌else◌, ◌==◌, List, [], ◌++◌, length, Some, Result, Ok, Err}
 use Rattle.std.specs.List.{filter, list_all}
 use Rattle.std.specs.declared.string.String.{String}
 use Rattle.std.specs.declared.alloc.Global.{Global}
@@ -9,7 +9,7 @@ use Rattle.kernel_line.specs.declared.words.LineFault.{LineFault}
 use Rattle.kernel_line.specs.Line.{is_of, IsFaultAmong}
 use Rattle.region_report.specs.Reports.{ReportHeld}
 use Rattle.report_tool.specs.declared.showing.Format.{Format}
-use Rattle.psz_spec.specs.declared.SizeFault.{SizeFault}
+use Rattle.psz_spec.specs.declared.Sizes.{Sizes}
 use Rattle.storage_words.specs.declared.Storages.{Storages}
 use Rattle.storage_words.specs.declared.Storages.TheVariants.{Never, Shown, All}
 use Rattle.storage_spec.specs.Found.{front_of}
@@ -47,23 +47,16 @@ abbrev pub no_storage : NoStorage → Refusal
 no_storage (Stopped stop) = Memory
 no_storage (NotDivided fault) = Undivided fault
 
--- whether one is looked for
-abbrev pub is_sought : Storages → Bool
-is_sought Never = false
-is_sought Shown = true
-is_sought (All sizes) = true
+-- why it is not known whether an image is a storage, or why it is none of the sizes that words give
+abbrev pub IsUnheldBy : Sizes → List ℕ → Refusal → Type 0
+IsUnheldBy sizes image Memory = ⊤
+IsUnheldBy sizes image (Undivided fault) = storage_of sizes (front_of image) ≡ Err fault
+IsUnheldBy sizes image other = ⊥
 
--- no kernel divides an image by the sizes that words give
-abbrev pub IsUndivided : Storages → List ℕ → SizeFault → Type 0
-IsUndivided Never image fault = ⊥
-IsUndivided Shown image fault = ⊥
-IsUndivided (All sizes) image fault = storage_of sizes (front_of image) ≡ Err fault
-
--- why it is not known whether an image is a storage, or why it is none
 abbrev pub IsUnheld : Storages → List ℕ → Refusal → Type 0
-IsUnheld storages image Memory = is_sought storages ≡ true
-IsUnheld storages image (Undivided fault) = IsUndivided storages image fault
-IsUnheld storages image other = ⊥
+IsUnheld Never image why = ⊥
+IsUnheld Shown image why = why ≡ Memory
+IsUnheld (All sizes) image why = IsUnheldBy sizes image why
 
 -- the text is the lines on the storage, and then its report, with ten lines of the newest dump
 pub record IsStorageReport (h : HeldStorage) (format : Format) (name : List ℕ) (r : Reported) : Type 0 where

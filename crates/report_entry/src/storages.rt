@@ -2,12 +2,12 @@
 ghost use Rattle.std.specs.Prelude.{◌≡◌, ◌++◌, Some, IfOk, IfErr, OnOk, MatchResult};
 ghost use Rattle.std.specs.List.{list_all};
 ghost use Rattle.grammar_spec.specs.Words.{texts};
-ghost use Rattle.storage_words.specs.Words.{is_of_storage as is_of};
+ghost use Rattle.storage_words.specs.Words.{is_of_storage as is_of, gives_size};
 ghost use Rattle.storage_report.specs.Held.{IsLookedAt};
 ghost use Rattle.report_entry.specs.Storages.{with_storage_words as with_words, IsLineFault, IsUnheld};
 ghost use Rattle.report_entry.specs.Storages.{storages_in as storages_of};
 ghost use Rattle.report_entry.specs.Memory.{image_bytes};
-ghost use Rattle.report_entry.specs.Storages.{no_storage as no_storage_of, is_sought as is_sought_of, IsStorageReport};
+ghost use Rattle.report_entry.specs.Storages.{no_storage as no_storage_of, IsStorageReport};
 
 use crate::memory::{Image, Text};
 use crate::reports::{Refusal, Reported};
@@ -24,10 +24,16 @@ use symbols::Symbols;
 const LINES: usize = 10;
 
 // Whether each word gives a size of a storage.
+fn give_sizes(words: &[String]) -> bool
+    ensures { result ≡ list_all gives_size words.now }
+{
+    words.iter().all(|word| is_of_storage(word))
+}
+
 fn are_of_storage(words: &[String]) -> bool
     ensures { result ≡ list_all is_of (texts words.now) }
 {
-    words.iter().all(|word| is_of_storage(word))
+    give_sizes(words)
 }
 
 fn add_each(words: &mut Vec<String>, mut more: Vec<String>) -> Result<(), AllocError>
@@ -76,15 +82,6 @@ fn no_storage(none: NoStorage) -> Refusal
     }
 }
 
-fn is_sought(storages: Storages) -> bool
-    ensures { result ≡ is_sought_of storages }
-{
-    match storages {
-        Storages::Never => false,
-        Storages::Shown | Storages::All(_) => true,
-    }
-}
-
 // The storage that a copy of the image is.
 fn held_in(
     alloc: Global,
@@ -107,7 +104,7 @@ pub fn storage_in(
 ) -> Result<Option<HeldStorage>, Refusal>
     ensures { MatchResult result (IsLookedAt storages (Some image.now)) (IsUnheld storages image.now) }
 {
-    if !is_sought(storages) {
+    if matches!(storages, Storages::Never) {
         return Ok(None);
     }
     let image = Image::new(Bytes::copy_of(alloc, image)?);
