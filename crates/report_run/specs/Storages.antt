@@ -27,7 +27,7 @@ pub record IsUnfound (storages : Storages) (holds : Option (List ℕ)) (before n
   pub cause : IsNotLookedAt storages holds before now none
   pub is : why ≡ no_storage_failure none
 
--- ---- the lines on a storage, and its report behind them
+-- ---- the report of a storage, and the lines on it behind
 
 abbrev pub lines_on : List ℕ → HeldStorage → List ℕ
 lines_on path h = storage_lines path h.storage h.bytes.items
@@ -35,32 +35,39 @@ lines_on path h = storage_lines path h.storage h.bytes.items
 pub record IsStorageShown (asked : Asked) (path : List ℕ) (h : HeldStorage) (given now : Option (List ℕ)) (a b : Seen)
     (report : ReportHeld) : Type 0 where
   pub between : Option (List ℕ)
+  pub reported : IsReported asked.format path h (names_of (map_of asked.map)) asked.lines given between report
   pub faults : ℕ
-  pub lines : TellsLayout asked.format (lines_on path h) given between faults faults a b
-  pub reported : IsReported asked.format path h (names_of (map_of asked.map)) asked.lines between now report
+  pub lines : TellsLayout asked.format (lines_on path h) between now faults faults a b
 
--- memory ran out before the lines
+-- memory ran out before
 pub record IsUnbegun (given now : Option (List ℕ)) (a b : Seen) (why : Failure) : Type 0 where
   pub why_is : why ≡ Memory
   pub unput : now ≡ given
   pub silent : b ≡ a
 
--- or the report stopped behind them
-pub record IsStoppedBehind (asked : Asked) (path : List ℕ) (h : HeldStorage) (given now : Option (List ℕ))
+-- or the report stopped
+pub record IsStorageStopped (asked : Asked) (path : List ℕ) (h : HeldStorage) (given now : Option (List ℕ))
     (put_before put_now : ℕ) (a b : Seen) (why : Failure) : Type 0 where
-  pub between : Option (List ℕ)
-  pub lines : TellsLayout asked.format (lines_on path h) given between put_before put_before a b
   pub stop : Stop
-  pub cause : IsUnreported asked.format path h (names_of (map_of asked.map)) asked.lines between now put_before put_now
+  pub cause : IsUnreported asked.format path h (names_of (map_of asked.map)) asked.lines given now put_before put_now
       stop
   pub why_is : why ≡ stop_failure stop
+  pub silent : b ≡ a
+
+-- or the lines failed behind it
+pub record IsStorageUnended (asked : Asked) (path : List ℕ) (h : HeldStorage) (given now : Option (List ℕ))
+    (put_before put_now : ℕ) (a b : Seen) (why : Failure) : Type 0 where
+  pub between : Option (List ℕ)
+  pub report : ReportHeld
+  pub reported : IsReported asked.format path h (names_of (map_of asked.map)) asked.lines given between report
+  pub cause : IsNotTold asked.format (lines_on path h) between now put_before put_now a b why
 
 abbrev pub IsStorageUnshown : Asked → List ℕ → HeldStorage → Option (List ℕ) → Option (List ℕ) → ℕ → ℕ → Seen → Seen
     → Failure → Type 0
 IsStorageUnshown asked path h given now put_before put_now a b why =
     IsUnbegun given now a b why
-    ⊎ (IsNotTold asked.format (lines_on path h) given now put_before put_now a b why
-    ⊎ IsStoppedBehind asked path h given now put_before put_now a b why)
+    ⊎ (IsStorageStopped asked path h given now put_before put_now a b why
+    ⊎ IsStorageUnended asked path h given now put_before put_now a b why)
 
 -- ---- an image that is no text log
 

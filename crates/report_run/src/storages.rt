@@ -53,7 +53,7 @@ fn functions(alloc: Global, map: &Option<Vec<u8>>) -> Result<Symbols, AllocError
     }
 }
 
-/// The report of a storage, behind the lines on it.
+/// The report of a storage, and then the lines on it.
 pub fn report_storage<O: Sink, E: Sink>(
     alloc: Global,
     asked: &Asked,
@@ -73,9 +73,10 @@ pub fn report_storage<O: Sink, E: Sink>(
 {
     let lines = held.lines(alloc, path)?;
     let symbols = functions(alloc, &asked.map)?;
+    let report = match report(alloc, held, &symbols, asked.lines, asked.format, path, out) {
+        Ok(report) => report,
+        Err(stop) => return Err(stop_failure(stop)),
+    };
     tell_layout(asked.format, &lines, out, messages)?;
-    match report(alloc, held, &symbols, asked.lines, asked.format, path, out) {
-        Ok(report) => Ok(report),
-        Err(stop) => Err(stop_failure(stop)),
-    }
+    Ok(report)
 }
