@@ -37,29 +37,36 @@ def visible(content):
 
 
 class Records(html.parser.HTMLParser):
-    """The text of each `pre` of a page that has a name."""
+    """The name, or none, and the text of each log of a page."""
 
     def __init__(self, page):
         super().__init__(convert_charrefs=True)
-        self.texts, self.inside = {}, None
+        self.logs, self.is_inside = [], False
         self.feed(page)
 
     def handle_starttag(self, tag, attrs):
-        if tag == "pre":
-            self.inside = dict(attrs).get("id")
-            self.texts[self.inside] = ""
+        if tag == "pre" and ("class", "log") in attrs:
+            self.logs.append([dict(attrs).get("id"), ""])
+            self.is_inside = True
 
     def handle_endtag(self, tag):
         if tag == "pre":
-            self.inside = None
+            self.is_inside = False
 
     def handle_data(self, data):
-        if self.inside:
-            self.texts[self.inside] += data
+        if self.is_inside:
+            self.logs[-1][1] += data
 
     def text(self, name):
-        """A browser drops the first newline of a `pre`."""
-        return self.texts[name].removeprefix("\n")
+        """The lines of a record: logs without a name are lines before and after the one beside them. A browser drops
+        the first newline of a `pre`."""
+        names = [log[0] for log in self.logs]
+        first = last = names.index(name)
+        while first > 0 and names[first - 1] is None:
+            first -= 1
+        while last + 1 < len(names) and names[last + 1] is None:
+            last += 1
+        return "".join(text.removeprefix("\n") for _, text in self.logs[first : last + 1])
 
 
 class Checks:

@@ -3,6 +3,7 @@
 
 mod command;
 mod folder;
+mod folders;
 mod image;
 mod layout;
 mod memory;
@@ -13,6 +14,8 @@ use clap::ArgMatches;
 use clap::error::ErrorKind;
 use command::command;
 use folder::Named;
+use folder_files::files_of;
+use folders::Tree;
 use image::System;
 use layout::{Asked, NoPlan, Terminal, asked_by, format};
 use memory::Progress;
@@ -89,7 +92,7 @@ fn all_files<R: Runtime, S: Read, E: Sink>(
     }
 }
 
-// The paths of the images.
+// The paths that are named.
 fn paths_of(alloc: Global, matches: &ArgMatches<'_>) -> Result<Vec<String>, AllocError> {
     let mut paths = Vec::new(alloc);
     for path in matches.get_strs("image").unwrap_or(&[]) {
@@ -123,7 +126,9 @@ fn run<R: Runtime, S: Read + Drop, E: Sink>(
             return Ok(error.exit_code() as u8);
         }
     };
-    let paths = paths_of(alloc, &matches)?;
+    let mut tree = Tree::new(rt.clone()?, alloc);
+    let named = paths_of(alloc, &matches)?;
+    let paths = files_of(alloc, &named, matches.get_flag("recursive"), &mut tree)?.paths;
     if paths.len() > 1 && format(&matches) == Format::Html {
         let error = command(alloc)?.error(ErrorKind::TooManyValues, "a page shows one image")?;
         error.print(rt)?;

@@ -1,8 +1,9 @@
 -- Rows of bytes that are there
 use Rattle.std.proofs.Common.{◌≡◌, ℕ, false, true, List, [], ◌∷◌, length, codes, refl, ◌==◌}
 use Rattle.report_spec.specs.Facts.{seconds_from}
-use Rattle.report_html.specs.Pieces.{Part, Words, Bytes, Long}
+use Rattle.report_html.specs.Pieces.{Part, Words, Bytes, Log, Long}
 use Rattle.report_html.specs.Facts.{up_parts, bytes_parts}
+use Rattle.report_html.specs.Died.{folded_parts}
 
 pub row_is : (label bytes : List ℕ) → (length bytes == 0) ≡ false
     → Words (codes "<tr><th scope=\"row\">") ∷ Words label ∷ Words (codes "</th><td>") ∷ Bytes bytes
@@ -15,3 +16,9 @@ pub up_is : (uptime : List ℕ) (n : ℕ) → (length uptime == 0) ≡ false →
     ∷ Words (codes "</td></tr>\n") ∷ [] ≡ up_parts uptime
 up_is [] n e s = let n : true ≡ false = e in cc
 up_is (b ∷ bs) n e s = rw s refl
+
+pub folded_is : (words bytes : List ℕ) → (length bytes == 0) ≡ false
+    → Words (codes "<details>\n<summary>") ∷ Words words ∷ Words (codes "</summary>\n<pre class=\"log\">\n") ∷ Log bytes
+    ∷ Words (codes "</pre>\n</details>\n") ∷ [] ≡ folded_parts words bytes
+folded_is words [] e = let n : true ≡ false = e in cc
+folded_is words (b ∷ bs) e = refl

@@ -33,7 +33,7 @@ use Rattle.zone_spec.specs.Reading.{ZoneReading}
 use Rattle.death_spec.specs.declared.Line.{Line}
 use Rattle.death_spec.specs.declared.Span.{Span}
 use Rattle.death_spec.specs.declared.Death.{Death}
-use Rattle.death_spec.specs.Lines.{part}
+use Rattle.death_spec.specs.Lines.{lines_from, part}
 use Rattle.death_spec.specs.Reports.{death_of}
 use Rattle.prz_read.specs.Saving.{saved}
 use Rattle.prz_region.proofs.Chains.{AreBytes-take, AreBytes-drop}
@@ -46,21 +46,22 @@ use Rattle.report_html.specs.Spots.{stretch_parts, verdict_parts, spot_parts}
 use Rattle.report_html.specs.Spots.{spots_opening, spots_parts}
 use Rattle.report_html.specs.Regions.{picture}
 use Rattle.report_html.specs.Pictures.{numbers_parts}
-use Rattle.report_html.specs.Pictures.{fitting_parts, label_parts, map_parts}
+use Rattle.report_html.specs.Pictures.{fitting_parts, label_parts, place_parts, zone_name, frame_parts, map_parts}
 use Rattle.report_html.specs.Pictures.{corrected_parts, header_parts, blocks_parts, run_parts, runs}
-use Rattle.report_html.specs.Pictures.{unused_parts, row_parts, zone_parts, drawn_parts, width_of}
+use Rattle.report_html.specs.Pictures.{unused_parts, parity_parts, strip_parts, row_parts, zone_parts, drawn_parts, width_of}
 use Rattle.report_html.specs.Pictures.{all_drawn}
-use Rattle.report_html.specs.Before.{told_before, time_after, before_parts, before_bytes}
-use Rattle.report_html.specs.Facts.{when_parts, up_parts, bytes_parts, machine_parts, some_bytes, machine_bytes}
+use Rattle.report_html.specs.Before.{told_before, time_after, named_below, before_parts, before_bytes}
+use Rattle.report_html.specs.Facts.{when_parts, up_parts, bytes_parts, machine_parts, some_bytes, named_bytes, machine_bytes}
 use Rattle.report_html.specs.Ended.{end_facts, end_parts as ending_parts, end_bytes}
 use Rattle.report_html.specs.Died.{second_parts, said_parts, why_parts, fact_parts}
 use Rattle.report_spec.specs.Excerpts.{place_above, below}
-use Rattle.report_html.specs.Died.{context_parts, rest_parts, around_parts}
-use Rattle.report_html.specs.Died.{death_parts, died_parts, second_bytes, named_bytes}
-use Rattle.report_html.specs.Died.{said_bytes, why_bytes, context_bytes, rest_bytes, around_bytes, death_bytes}
+use Rattle.report_html.specs.Died.{context_parts, rest_parts, rest_end, excerpt_parts, folded_parts, shown_opening, around_parts}
+use Rattle.report_html.specs.Died.{death_parts, died_parts, second_bytes}
+use Rattle.report_html.specs.Died.{said_bytes, why_bytes, context_bytes, rest_bytes, excerpt_bytes, around_bytes, death_bytes}
 use Rattle.report_html.specs.Died.{died_bytes}
-use Rattle.report_html.specs.Listed.{below_parts, telling_parts, above_parts, say_parts, unfolded}
-use Rattle.report_html.specs.Listed.{fold_parts, below_bytes, telling_bytes, above_bytes, record_bytes}
+use Rattle.report_html.specs.Listed.{below_parts, telling_parts, above_parts, say_parts, first_parts, head_parts, unfolded}
+use Rattle.report_html.specs.Listed.{teller_name, is_teller, is_unfolded, mark_parts, first_bytes, head_bytes}
+use Rattle.report_html.specs.Listed.{fold_parts, below_bytes, telling_bytes, above_bytes, content_bytes, record_bytes}
 use Rattle.report_html.specs.Causes.{CrashShown, crash_of, is_dump, crashes_of, with_first, firsts_of, rows_of}
 use Rattle.report_html.specs.Causes.{has_line_of, time_cell, newest_cells, row_parts as dumps_parts}
 use Rattle.report_html.specs.Causes.{line_part, cause_parts, others_parts, table_parts, table_of}
@@ -69,10 +70,10 @@ use Rattle.report_html.specs.Parameters.{parameters_parts}
 use Rattle.report_html.specs.declared.style.TheConstants.{STYLE}
 use Rattle.report_html.specs.declared.words.TheConstants.{HEAD, NAVIGATION, END}
 use Rattle.report_html.specs.Groups.{are_grouped, group_in, is_same, end_parts, begin_parts, edge_parts}
-use Rattle.report_html.specs.Pages.{time_parts, packing_parts, record_parts}
+use Rattle.report_html.specs.Pages.{time_parts, packing_parts, content_parts, summary_parts, record_parts, listed_parts}
 use Rattle.report_html.specs.Pages.{records_after, list_parts, records_opening, named_parts, name_bytes}
 use Rattle.report_html.specs.Pages.{heading_parts, page_with, page_parts}
-use Rattle.report_html.specs.Reads.{counted_parts, number_parts, read_parts}
+use Rattle.report_html.specs.Reads.{counted_parts, number_parts, clean_parts, read_parts}
 use Rattle.report_spec.specs.declared.Warning.{Warning}
 use Rattle.report_spec.specs.declared.Warning.TheVariants.{ConsoleTells, BadTeller, BadHeaders, NoLog, ManyBad}
 use Rattle.region_report.specs.Warned.{warnings_by}
@@ -125,18 +126,30 @@ of-row : (z : Zone) (r : Option ZoneReading) → foreign_of (row_parts z r) ≡ 
 of-row z None = refl
 of-row z (Some r) = refl
 
+of-parity : (z : Zone) → foreign_of (parity_parts z) ≡ []
+of-parity z = of-choice (nat_lt (12 + z.cap) z.size) _ [] refl refl
+
+of-strip : (z : Zone) (p : PartStates) → foreign_of (strip_parts z p) ≡ []
+of-strip z p = simp (both, of-header, of-runs, of-unused, of-parity)
+
 of-zone : (d : Saved × PartStates) → foreign_of (zone_parts d) ≡ []
-of-zone d = simp (both, of-row, of-header, of-runs, of-unused)
+of-zone d =
+    and-none (row_parts d.0.0 d.0.1 ++ strip_parts d.0.0 d.1) (Words (codes "</td></tr>\n") ∷ []) []
+    (and-none (row_parts d.0.0 d.0.1) (strip_parts d.0.0 d.1) [] (of-row d.0.0 d.0.1) (of-strip d.0.0 d.1)) refl
 
 of-label : (z : Zone) (whole : ℕ) → foreign_of (label_parts z whole) ≡ []
 of-label z whole = of-choice (nat_lt (16 * z.size) whole) [] (fitting_parts z whole) refl refl
 
-of-map : (whole : ℕ) (z : Zone) (r : Option ZoneReading) → foreign_of (map_parts whole z r) ≡ []
-of-map whole z r = simp (both, of-label)
+of-map : (whole : ℕ) (d : Saved × PartStates) → foreign_of (map_parts whole d) ≡ []
+of-map whole d =
+    let front : List Part = place_parts whole d.0.0 ++ zone_name d.0.0 ++ frame_parts d.0.1 in
+    and-none (front ++ strip_parts d.0.0 d.1 ++ label_parts d.0.0 whole) (Words (codes "</svg>\n") ∷ []) []
+    (and-none (front ++ strip_parts d.0.0 d.1) (label_parts d.0.0 whole) []
+    (and-none front (strip_parts d.0.0 d.1) [] refl (of-strip d.0.0 d.1)) (of-label d.0.0 whole)) refl
 
 of-drawn : (in_table : Bool) (whole : ℕ) (d : Saved × PartStates) → foreign_of (drawn_parts in_table whole d) ≡ []
 of-drawn true whole d = of-zone d
-of-drawn false whole d = of-map whole d.0.0 d.0.1
+of-drawn false whole d = of-map whole d
 
 of-all : (in_table : Bool) (zones : List Zone) (report : ReportHeld) → foreign_of (all_drawn in_table zones report) ≡ []
 of-all in_table zones report =
@@ -187,6 +200,25 @@ of-above Ftrace text = refl
 of-say : (name : Name) (text : List ℕ) → foreign_of (say_parts name text) ≡ above_bytes name text
 of-say name text = simp (both, of-above, append-nil)
 
+of-first : (text : List ℕ) (lines : List Line) → foreign_of (first_parts text lines) ≡ first_bytes text lines
+of-first text [] = refl
+of-first text (line ∷ lines) = refl
+
+of-head : (name : Name) (text : List ℕ) → foreign_of (head_parts name text) ≡ head_bytes name text
+of-head (Dump index packed) text = of-first text (lines_from text 0)
+of-head Console text = refl
+of-head Pmsg text = refl
+of-head Ftrace text = refl
+
+of-mark : (tells : Bool) → foreign_of (mark_parts tells) ≡ []
+of-mark true = refl
+of-mark false = refl
+
+of-content : (tells : Bool) (name : Name) (text : List ℕ)
+    → foreign_of (content_parts tells name text) ≡ content_bytes tells text
+of-content true name text = refl
+of-content false name text = refl
+
 of-fold : (is_open : Bool) → foreign_of (fold_parts is_open) ≡ []
 of-fold true = refl
 of-fold false = refl
@@ -203,12 +235,26 @@ of-packing (PartOfText fault text) = refl
 of-number : (words : List ℕ) (n : ℕ) → foreign_of (number_parts words n) ≡ []
 of-number words n = of-choice (nat_lt 0 n) (counted_parts words n) [] refl refl
 
-of-read : (zones : List Saved) (name : Name) → foreign_of (read_parts zones name) ≡ []
-of-read zones name = simp (both, of-number)
+of-clean : (bad corrected : ℕ) → foreign_of (clean_parts bad corrected) ≡ []
+of-clean bad corrected = of-choice ((bad == 0) && (corrected == 0)) _ [] refl refl
 
-of-record : (zones : List Saved) (is_open : Bool) (r : RecordShown)
-    → foreign_of (record_parts zones is_open r) ≡ record_bytes r
-of-record zones is_open r = simp (both, of-say, of-fold, of-time, of-packing, of-number, append-nil)
+of-read : (zones : List Saved) (name : Name) → foreign_of (read_parts zones name) ≡ []
+of-read zones name = simp (both, of-clean, of-number)
+
+of-summary : (zones : List Saved) (tells : Bool) (r : RecordShown)
+    → foreign_of (summary_parts zones tells r) ≡ above_bytes r.name (readable r) ++ head_bytes r.name (readable r)
+of-summary zones tells r =
+    simp (both, of-say, of-head, of-mark, of-time, of-packing, of-clean, of-number, append-nil)
+
+of-record : (zones : List Saved) (is_open : Bool) (teller : Option Name) (r : RecordShown)
+    → foreign_of (record_parts zones is_open (is_teller teller r.name) r) ≡ record_bytes teller r
+of-record zones is_open teller r =
+    let tells : Bool = is_teller teller r.name in
+    let said : List (List ℕ) = above_bytes r.name (readable r) ++ head_bytes r.name (readable r) in
+    and-of (fold_parts is_open ++ summary_parts zones tells r) (content_parts tells r.name (readable r)) said
+    (content_bytes tells (readable r))
+    (and-of (fold_parts is_open) (summary_parts zones tells r) [] said (of-fold is_open) (of-summary zones tells r))
+    (of-content tells r.name (readable r))
 
 of-end : (group : Option ℕ) → foreign_of (end_parts group) ≡ []
 of-end None = refl
@@ -223,12 +269,20 @@ of-edge number before after =
     of-choice (is_same before after) [] (end_parts before ++ begin_parts number after) refl
     (simp (both, of-end, of-begin))
 
-of-records : (zones : List Saved) (grouped : Bool) (number before : Option ℕ) (rs : List RecordShown)
-    → foreign_of (records_after zones grouped number before rs) ≡ flat_map record_bytes rs
+of-records : (zones : List Saved) (grouped : Bool) (number : Option ℕ) (teller : Option Name) (before : Option ℕ)
+    (rs : List RecordShown)
+    → foreign_of (records_after zones grouped number teller before rs) ≡ flat_map (record_bytes teller) rs
 unfolding records_after
-of-records zones grouped number before [] = of-edge number before None
-of-records zones grouped number before (r ∷ rs) =
-    simp (both, of-edge, of-record, of-records zones grouped number (group_in grouped r.name) rs)
+of-records zones grouped number teller before [] = of-edge number before None
+of-records zones grouped number teller before (r ∷ rs) =
+    let here : Option ℕ = group_in grouped r.name in
+    let edge : List Part = edge_parts number before here in
+    let own : List Part = listed_parts zones number teller r in
+    let rest : List Part = records_after zones grouped number teller here rs in
+    and-of (edge ++ own) rest (record_bytes teller r) (flat_map (record_bytes teller) rs)
+    (and-of edge own [] (record_bytes teller r) (of-edge number before here)
+    (of-record zones (is_unfolded number r.name) teller r))
+    (of-records zones grouped number teller here rs)
 
 -- ---- why the machine died has parts of the text that tells it
 
@@ -274,33 +328,57 @@ of-rest : (text : List ℕ) (at : ℕ) (second : Option Line)
 of-rest text at None = refl
 of-rest text at (Some line) = refl
 
-of-around : (text : List ℕ) (d : Death) → foreign_of (around_parts text d) ≡ around_bytes text d
-of-around text d =
+of-excerpt : (text : List ℕ) (d : Death) → foreign_of (excerpt_parts text d) ≡ excerpt_bytes text d
+of-excerpt text d =
     let above : List ℕ = part text (place_above text d.telling.start 8) d.telling.start in
     let line : List ℕ = part text d.telling.start d.telling.next in
     ap (λ (bs : List (List ℕ)). above ∷ line ∷ bs) (of-rest text d.telling.next d.second)
+
+of-folded : (words bytes : List ℕ) → foreign_of (folded_parts words bytes) ≡ some_bytes bytes
+of-folded words [] = refl
+of-folded words (b ∷ bs) = refl
+
+of-around : (name : Name) (text : List ℕ) (d : Death) → foreign_of (around_parts name text d) ≡ around_bytes text d
+of-around name text d =
+    let front : List ℕ = part text 0 (place_above text d.telling.start 8) in
+    let back : List ℕ = part text (rest_end text d.telling.next d.second) (length text) in
+    let before : List Part = folded_parts (codes "Lines before") front in
+    let shown : List Part = excerpt_parts text d in
+    let own : List (List ℕ) = excerpt_bytes text d in
+    and-of (before ++ shown_opening name ++ shown ++ Words (codes "</pre>\n") ∷ [])
+    (folded_parts (codes "Lines after") back) (some_bytes front ++ own) (some_bytes back)
+    (and-none (before ++ shown_opening name ++ shown) (Words (codes "</pre>\n") ∷ []) (some_bytes front ++ own)
+    (and-of (before ++ shown_opening name) shown (some_bytes front) own
+    (and-none before (shown_opening name) (some_bytes front) (of-folded (codes "Lines before") front) refl)
+    (of-excerpt text d)) refl)
+    (of-folded (codes "Lines after") back)
 
 of-after : (time : Option Time) → foreign_of (time_after time) ≡ []
 of-after None = refl
 of-after (Some time) = refl
 
+of-named-below : (words text : List ℕ) (span : Option Span)
+    → foreign_of (named_below words text span) ≡ named_bytes text span
+of-named-below words text None = refl
+of-named-below words text (Some span) = refl
+
 of-before : (before : Option DeathTold) → foreign_of (before_parts before) ≡ before_bytes before
 of-before None = refl
-of-before (Some t) = simp (both, of-after)
+of-before (Some t) = simp (both, of-after, of-named-below, append-nil)
 
-of-death : (signature : List ℕ) (records : List RecordShown) (t : DeathTold)
-    → foreign_of (death_parts signature records t) ≡ death_bytes signature records t
-of-death signature records t =
-    simp (both, of-when, of-up, of-fact, of-bytes, of-before, of-around, append-nil)
+of-death : (signature : List ℕ) (zones : List Saved) (records : List RecordShown) (t : DeathTold)
+    → foreign_of (death_parts signature zones records t) ≡ death_bytes signature records t
+of-death signature zones records t =
+    simp (both, of-when, of-up, of-fact, of-bytes, of-before, of-clean, of-number, of-around, append-nil)
 
-of-ending : (t : Option EndTold) → foreign_of (ending_parts t) ≡ end_bytes t
-of-ending None = refl
-of-ending (Some t) = simp (both, of-when, of-up, of-bytes, append-nil)
+of-ending : (zones : List Saved) (t : Option EndTold) → foreign_of (ending_parts zones t) ≡ end_bytes t
+of-ending zones None = refl
+of-ending zones (Some t) = simp (both, of-when, of-up, of-bytes, of-clean, of-number, append-nil)
 
-of-died : (signature : List ℕ) (records : List RecordShown) (t : Option DeathTold)
-    → foreign_of (died_parts signature records t) ≡ died_bytes signature records t
-of-died signature records None = of-ending (end_told records)
-of-died signature records (Some t) = of-death signature records t
+of-died : (signature : List ℕ) (zones : List Saved) (records : List RecordShown) (t : Option DeathTold)
+    → foreign_of (died_parts signature zones records t) ≡ died_bytes signature records t
+of-died signature zones records None = of-ending zones (end_told records)
+of-died signature zones records (Some t) = of-death signature zones records t
 
 -- ---- warnings have none
 
@@ -390,7 +468,7 @@ of-page title p zones report signature told =
     let opening : List Part = heading_parts title (named_parts signature report.records told)
     ++ why_parts report.records told in
     let warned : List Part = warnings_parts report told in
-    let died : List Part = died_parts signature report.records told in
+    let died : List Part = died_parts signature (saved report.logs) report.records told in
     let opened : List Part = records_opening (length report.records) in
     let causes : List Part = causes_parts report.records in
     let records : List Part = list_parts zones report told in
@@ -398,7 +476,8 @@ of-page title p zones report signature told =
     let w : List (List ℕ) = title ∷ name_bytes signature told ++ title ∷ why_bytes told in
     let d : List (List ℕ) = died_bytes signature report.records told in
     let l : List (List ℕ) = causes_bytes report.records in
-    let m : List (List ℕ) = flat_map record_bytes report.records in
+    let teller : Option Name = teller_name told in
+    let m : List (List ℕ) = flat_map (record_bytes teller) report.records in
     let number : Option ℕ = unfolded (newest report.records) told in
     and-none (opening ++ warned ++ died ++ opened ++ causes ++ records ++ drawn ++ parameters_parts p)
     (Words END.now ∷ []) (w ++ d ++ l ++ m)
@@ -410,8 +489,8 @@ of-page title p zones report signature told =
     (and-none (opening ++ warned ++ died) opened (w ++ d)
     (and-of (opening ++ warned) died w d
     (and-none opening warned w (of-opening title signature report.records told)
-    (of-warnings report told)) (of-died signature report.records told)) refl) (of-causes (crashes_of report.records)))
-    (of-records (saved report.logs) (are_grouped zones) number None report.records)) (of-picture zones report))
+    (of-warnings report told)) (of-died signature (saved report.logs) report.records told)) refl) (of-causes (crashes_of report.records)))
+    (of-records (saved report.logs) (are_grouped zones) number teller None report.records)) (of-picture zones report))
     (of-parameters p)) refl
 
 -- ---- each of them is escaped to text
@@ -497,14 +576,33 @@ joins-machine m h =
 joins-before : (before : Option DeathTold) → TellsBytes before → Joins (before_bytes before)
 joins-before None h = joins-none
 joins-before (Some t) h =
-    joins-with (readable t.teller) t.death.telling.text t.death.telling.end [] h joins-none
+    let text : List ℕ = readable t.teller in
+    let b : Option Span → List (List ℕ) = named_bytes text in
+    let j : (span : Option Span) → Joins (named_bytes text span) = λ span. joins-named text span h in
+    let l : List (List ℕ) = part text t.death.telling.text t.death.telling.end ∷ [] in
+    joins-and (l ++ b t.death.cpu ++ b t.death.function) (b t.death.task)
+    (joins-and (l ++ b t.death.cpu) (b t.death.function)
+    (joins-and l (b t.death.cpu) (joins-with text t.death.telling.text t.death.telling.end [] h joins-none)
+    (j t.death.cpu)) (j t.death.function)) (j t.death.task)
 
-joins-around : (text : List ℕ) (d : Death) → AreBytes text → Joins (around_bytes text d)
-joins-around text d h =
+joins-excerpt : (text : List ℕ) (d : Death) → AreBytes text → Joins (excerpt_bytes text d)
+joins-excerpt text d h =
     let rest : List (List ℕ) = rest_bytes text d.telling.next d.second in
     joins-with text (place_above text d.telling.start 8) d.telling.start
     (part text d.telling.start d.telling.next ∷ rest) h
     (joins-with text d.telling.start d.telling.next rest h (joins-rest text d.telling.next d.second h))
+
+joins-part : (text : List ℕ) (from to : ℕ) → AreBytes text → Joins (some_bytes (part text from to))
+joins-part text from to h =
+    joins-some (part text from to) (AreBytes-take (to - from) (drop from text) (AreBytes-drop from text h))
+
+joins-around : (text : List ℕ) (d : Death) → AreBytes text → Joins (around_bytes text d)
+joins-around text d h =
+    let from : ℕ = place_above text d.telling.start 8 in
+    let to : ℕ = rest_end text d.telling.next d.second in
+    joins-and (some_bytes (part text 0 from) ++ excerpt_bytes text d) (some_bytes (part text to (length text)))
+    (joins-and (some_bytes (part text 0 from)) (excerpt_bytes text d) (joins-part text 0 from h) (joins-excerpt text d h))
+    (joins-part text to (length text) h)
 
 joins-death : (signature : List ℕ) (records : List RecordShown) (t : DeathTold) → AreDeathBytes signature records t
     → Joins (death_bytes signature records t)
@@ -574,15 +672,32 @@ joins-above Console text h = joins-telling text (death_of text) h
 joins-above Pmsg text h = joins-none
 joins-above Ftrace text h = joins-none
 
-joins-record : (r : RecordShown) → AreBytes (readable r) → Joins (record_bytes r)
-joins-record r h =
-    joins-and (above_bytes r.name (readable r)) (readable r ∷ []) (joins-above r.name (readable r) h)
-    (joins-whole (readable r) h)
+joins-first : (text : List ℕ) (lines : List Line) → AreBytes text → Joins (first_bytes text lines)
+joins-first text [] h = joins-none
+joins-first text (line ∷ lines) h = joins-with text line.start line.end [] h joins-none
 
-texts-of : (rs : List RecordShown) → HoldBytes rs → EscapeToTexts (flat_map record_bytes rs)
-texts-of [] h = All-nil (λ (bytes : List ℕ). IsText (escaped bytes))
-texts-of (r ∷ rs) h =
-    joins-record r (h 0 r refl) (flat_map record_bytes rs) (texts-of rs (λ k q e. h (suc k) q e))
+joins-head : (name : Name) (text : List ℕ) → AreBytes text → Joins (head_bytes name text)
+joins-head (Dump index packed) text h = joins-first text (lines_from text 0) h
+joins-head Console text h = joins-none
+joins-head Pmsg text h = joins-none
+joins-head Ftrace text h = joins-none
+
+joins-content : (tells : Bool) (text : List ℕ) → AreBytes text → Joins (content_bytes tells text)
+joins-content true text h = joins-none
+joins-content false text h = joins-whole text h
+
+joins-record : (teller : Option Name) (r : RecordShown) → AreBytes (readable r) → Joins (record_bytes teller r)
+joins-record teller r h =
+    let text : List ℕ = readable r in
+    joins-and (above_bytes r.name text ++ head_bytes r.name text) (content_bytes (is_teller teller r.name) text)
+    (joins-and (above_bytes r.name text) (head_bytes r.name text) (joins-above r.name text h) (joins-head r.name text h))
+    (joins-content (is_teller teller r.name) text h)
+
+texts-of : (teller : Option Name) (rs : List RecordShown) → HoldBytes rs
+    → EscapeToTexts (flat_map (record_bytes teller) rs)
+texts-of teller [] h = All-nil (λ (bytes : List ℕ). IsText (escaped bytes))
+texts-of teller (r ∷ rs) h =
+    joins-record teller r (h 0 r refl) (flat_map (record_bytes teller) rs) (texts-of teller rs (λ k q e. h (suc k) q e))
 
 -- ---- telling lines are bytes
 
@@ -676,7 +791,7 @@ without_markup title p zones report page bytes hold tells is =
           (joins-onto title (name_bytes signature told) bytes (joins-name signature report.records told tells))
           (joins-onto title (why_bytes told) bytes (joins-why signature report.records told tells)))
           (joins-died signature report.records told tells)) (joins-causes report.records hold)
-          (flat_map record_bytes report.records) (texts-of report.records hold));
+          (flat_map (record_bytes (teller_name told)) report.records) (texts-of (teller_name told) report.records hold));
     }
 
 -- ---- what people read of records are bytes

@@ -15,25 +15,29 @@ use Rattle.prz_read.specs.Saving.{SavedLogs}
 use Rattle.prz_read.proofs.Saves.{zip-at}
 use Rattle.report_html.specs.Pieces.{Part, Words}
 use Rattle.report_html.proofs.PartSums.{joined}
-use Rattle.report_html.specs.Pictures.{row_parts, header_parts, runs, run_parts, unused_parts, zone_parts}
+use Rattle.report_html.specs.Pictures.{strip_opening, header_parts, runs, run_parts, unused_parts, parity_parts}
+use Rattle.report_html.specs.Pictures.{strip_parts}
 
 -- ---- one zone
 
-pub zone-added : (z : Zone) (r : Option ZoneReading) (p : PartStates) (header : PartState) (blocks : List PartState)
-    (old row head used rest new : List Part) → header ≡ p.header → blocks ≡ p.blocks → row ≡ old ++ row_parts z r
-    → head ≡ row ++ header_parts (Some header) → used ≡ head ++ flat_map (run_parts z) (runs 0 blocks)
-    → rest ≡ used ++ unused_parts z (length blocks) → new ≡ rest ++ Words (codes "</svg></td></tr>\n") ∷ []
-    → new ≡ old ++ zone_parts ((z, r), p)
-zone-added z r p header blocks old row head used rest new first same e1 e2 e3 e4 e5 =
-    let a : List Part = row_parts z r in
+pub strip-added : (z : Zone) (p : PartStates) (header : PartState) (blocks : List PartState)
+    (old begun head used rest edged new : List Part) → header ≡ p.header → blocks ≡ p.blocks
+    → begun ≡ old ++ strip_opening z.size → head ≡ begun ++ header_parts (Some header)
+    → used ≡ head ++ flat_map (run_parts z) (runs 0 blocks) → rest ≡ used ++ unused_parts z (length blocks)
+    → edged ≡ rest ++ parity_parts z → new ≡ edged ++ Words (codes "</svg>") ∷ [] → new ≡ old ++ strip_parts z p
+strip-added z p header blocks old begun head used rest edged new first same e1 e2 e3 e4 e5 e6 =
+    let a : List Part = strip_opening z.size in
     let b : List Part = header_parts (Some header) in
     let c : List Part = flat_map (run_parts z) (runs 0 blocks) in
     let d : List Part = unused_parts z (length blocks) in
-    let end : List Part = Words (codes "</svg></td></tr>\n") ∷ [] in
-    joined old (a ++ b ++ c ++ d) end rest new
-    (joined old (a ++ b ++ c) d used rest (joined old (a ++ b) c head used (joined old a b row head e1 e2) e3) e4) e5
+    let e : List Part = parity_parts z in
+    let end : List Part = Words (codes "</svg>") ∷ [] in
+    joined old (a ++ b ++ c ++ d ++ e) end edged new
+    (joined old (a ++ b ++ c ++ d) e rest edged
+    (joined old (a ++ b ++ c) d used rest (joined old (a ++ b) c head used (joined old a b begun head e1 e2) e3) e4) e5)
+    e6
     ∙ ap₂ (λ (h : PartState) (bs : List PartState). old ++ (a ++ header_parts (Some h)
-    ++ flat_map (run_parts z) (runs 0 bs) ++ unused_parts z (length bs) ++ end)) first same
+    ++ flat_map (run_parts z) (runs 0 bs) ++ unused_parts z (length bs) ++ e ++ end)) first same
 
 -- ---- the zones one after another
 

@@ -5,11 +5,14 @@ use Rattle.std.specs.Option.{is_some, option_map, option_or}
 use Rattle.zone_spec.specs.declared.Name.{Name}
 use Rattle.zone_spec.specs.declared.Time.{Time}
 use Rattle.death_spec.specs.declared.Line.{Line}
+use Rattle.death_spec.specs.declared.Span.{Span}
+use Rattle.death_spec.specs.declared.Death.{Death}
 use Rattle.death_spec.specs.Lines.{part}
 use Rattle.report_spec.specs.Packed.{RecordShown, readable}
 use Rattle.report_spec.specs.Newest.{newest, is_newer}
 use Rattle.report_spec.specs.Deaths.{DeathTold, told_by, other_told}
 use Rattle.report_html.specs.Pieces.{Part, Words, Bytes, Moment, Link}
+use Rattle.report_html.specs.Facts.{named_bytes}
 
 -- ---- which record
 
@@ -34,16 +37,29 @@ time_after None = []
 time_after (Some time) = Words (codes ", ") ∷ Moment time ∷ []
 
 abbrev pub line_below : List ℕ → Line → List Part
-line_below text line = Words (codes "\n") ∷ Bytes (part text line.text line.end) ∷ Words (codes "</td></tr>\n") ∷ []
+line_below text line = Words (codes "\n") ∷ Bytes (part text line.text line.end) ∷ []
 
--- a link to the record, its time, and below them its telling line
+abbrev pub named_below : (words text : List ℕ) → Option Span → List Part
+named_below words text None = []
+named_below words text (Some span) = Words words ∷ Bytes (part text span.start span.end) ∷ []
+
+-- what the report below the line names
+abbrev pub context_below : List ℕ → Death → List Part
+context_below text d =
+    named_below (codes "\nCPU ") text d.cpu ++ named_below (codes "\nFunction ") text d.function
+    ++ named_below (codes "\nTask ") text d.task
+
+-- a link to the record, its time, and below them its telling line and what its report names
 abbrev pub before_parts : Option DeathTold → List Part
 before_parts None = []
 before_parts (Some t) =
     Words (codes "<tr><th scope=\"row\">Before it</th><td>") ∷ Link t.teller.name ∷ [] ++ time_after t.teller.time
-    ++ line_below (readable t.teller) t.death.telling
+    ++ line_below (readable t.teller) t.death.telling ++ context_below (readable t.teller) t.death
+    ++ Words (codes "</td></tr>\n") ∷ []
 
 -- what of it comes from the image
 abbrev pub before_bytes : Option DeathTold → List (List ℕ)
 before_bytes None = []
-before_bytes (Some t) = part (readable t.teller) t.death.telling.text t.death.telling.end ∷ []
+before_bytes (Some t) =
+    part (readable t.teller) t.death.telling.text t.death.telling.end ∷ [] ++ named_bytes (readable t.teller) t.death.cpu
+    ++ named_bytes (readable t.teller) t.death.function ++ named_bytes (readable t.teller) t.death.task

@@ -1,6 +1,8 @@
 -- Why the machine died: the line that tells it, what is known of it, and the lines around it
-use Rattle.std.specs.Prelude.{ℕ, Bool, true, false, if◌then◌else◌, List, [], ◌∷◌, ◌++◌, codes, Option, Some, None}
+use Rattle.std.specs.Prelude.{ℕ, Bool, true, false, if◌then◌else◌, List, [], ◌∷◌, ◌++◌, length, codes, Option, Some}
+use Rattle.std.specs.Prelude.{None}
 use Rattle.zone_spec.specs.declared.Name.{Name}
+use Rattle.zone_spec.specs.Records.{Saved}
 use Rattle.death_spec.specs.declared.Line.{Line}
 use Rattle.death_spec.specs.declared.Span.{Span}
 use Rattle.death_spec.specs.declared.Death.{Death}
@@ -11,9 +13,10 @@ use Rattle.report_spec.specs.Deaths.{DeathTold, stamped, has_line}
 use Rattle.report_spec.specs.Ends.{end_told}
 use Rattle.report_spec.specs.Facts.{uptime_of, machine_of}
 use Rattle.report_spec.specs.Excerpts.{place_above, below}
-use Rattle.report_html.specs.declared.words.TheConstants.{NO_CPU, NO_FUNCTION, TOLD}
+use Rattle.report_html.specs.declared.words.TheConstants.{NO_CPU, NO_FUNCTION, READ, TOLD}
 use Rattle.report_html.specs.Pieces.{Part, Words, Bytes, Log, Named, Link}
-use Rattle.report_html.specs.Facts.{when_parts, up_parts, bytes_parts, machine_parts, some_bytes, machine_bytes}
+use Rattle.report_html.specs.Facts.{when_parts, up_parts, bytes_parts, machine_parts, some_bytes, named_bytes, machine_bytes}
+use Rattle.report_html.specs.Reads.{read_parts}
 use Rattle.report_html.specs.Ended.{ended_parts, end_parts, end_bytes}
 use Rattle.report_html.specs.Before.{told_before, before_parts, before_bytes}
 
@@ -65,11 +68,34 @@ rest_parts text at None = log_parts text at (below text at 16)
 rest_parts text at (Some line) =
     log_parts text at line.start ++ marked_parts text line ++ log_parts text line.next (below text line.next 16)
 
+-- where they end
+abbrev pub rest_end : List ℕ → ℕ → Option Line → ℕ
+rest_end text at None = below text at 16
+rest_end text at (Some line) = below text line.next 16
+
 -- eight lines above the telling line, and the lines below
-abbrev pub around_parts : List ℕ → Death → List Part
-around_parts text d =
+abbrev pub excerpt_parts : List ℕ → Death → List Part
+excerpt_parts text d =
     log_parts text (place_above text d.telling.start 8) d.telling.start ++ marked_parts text d.telling
     ++ rest_parts text d.telling.next d.second
+
+-- lines that are folded, under these words
+abbrev pub folded_parts : (words bytes : List ℕ) → List Part
+folded_parts words [] = []
+folded_parts words (b ∷ bs) =
+    Words (codes "<details>\n<summary>") ∷ Words words ∷ Words (codes "</summary>\n<pre class=\"log\">\n")
+    ∷ Log (b ∷ bs) ∷ Words (codes "</pre>\n</details>\n") ∷ []
+
+-- where the lines begin that are not folded, with the record's name as their anchor
+abbrev pub shown_opening : Name → List Part
+shown_opening name = Words (codes "<pre class=\"log\" id=\"") ∷ Named name ∷ Words (codes "\">\n") ∷ []
+
+-- all lines of the record that tells: those around the telling line, and those before and after, folded
+abbrev pub around_parts : Name → List ℕ → Death → List Part
+around_parts name text d =
+    folded_parts (codes "Lines before") (part text 0 (place_above text d.telling.start 8)) ++ shown_opening name
+    ++ excerpt_parts text d ++ Words (codes "</pre>\n") ∷ []
+    ++ folded_parts (codes "Lines after") (part text (rest_end text d.telling.next d.second) (length text))
 
 -- ---- all of it
 
@@ -85,35 +111,31 @@ console_words t (Some console) =
     if is_console t.teller.name then []
     else shared_words (has_line (readable console) (stamped (readable t.teller) t.death.telling))
 
--- which record tells: a link, whether the console tells the same, and the head of the lines
-abbrev pub teller_parts : Name → List ℕ → List Part
-teller_parts name words =
-    Words (codes "<tr><th scope=\"row\">Told by</th><td>") ∷ Link name ∷ Words words ∷ Words TOLD.now
-    ∷ Named name ∷ Words (codes "</h2>\n<pre class=\"log\">\n") ∷ []
+-- which record tells: a link, whether the console tells the same, how it read, and the heading of the lines
+abbrev pub teller_parts : List Saved → Name → List ℕ → List Part
+teller_parts zones name words =
+    Words (codes "<tr><th scope=\"row\">Told by</th><td>") ∷ Link name ∷ Words words ∷ Words READ.now ∷ []
+    ++ read_parts zones name ++ Words TOLD.now ∷ Named name ∷ Words (codes "</h2>\n") ∷ []
 
--- when, what is known, its signature, the machine, what was before it, by which record, and the lines
-abbrev pub death_parts : List ℕ → List RecordShown → DeathTold → List Part
-death_parts signature records t =
+-- when, what is known, its signature, the machine, what was before it, by which record of these zones, and the lines
+abbrev pub death_parts : List ℕ → List Saved → List RecordShown → DeathTold → List Part
+death_parts signature zones records t =
     when_parts t.teller.time ++ up_parts (uptime_of (readable t.teller) t.death.telling)
     ++ context_parts (readable t.teller) t.death ++ bytes_parts (codes "Signature") signature
     ++ machine_parts (machine_of t (console_of records)) ++ before_parts (told_before t.teller.name records)
-    ++ teller_parts t.teller.name (console_words t (console_of records))
-    ++ around_parts (readable t.teller) t.death ++ Words (codes "</pre>\n") ∷ []
+    ++ teller_parts zones t.teller.name (console_words t (console_of records))
+    ++ around_parts t.teller.name (readable t.teller) t.death
 
 -- of the records, by the one that tells; or by the one whose end is told
-abbrev pub died_parts : List ℕ → List RecordShown → Option DeathTold → List Part
-died_parts signature records None = end_parts (end_told records)
-died_parts signature records (Some t) = death_parts signature records t
+abbrev pub died_parts : List ℕ → List Saved → List RecordShown → Option DeathTold → List Part
+died_parts signature zones records None = end_parts zones (end_told records)
+died_parts signature zones records (Some t) = death_parts signature zones records t
 
 -- ---- what of it comes from the image
 
 abbrev pub second_bytes : List ℕ → Option Line → List (List ℕ)
 second_bytes text None = []
 second_bytes text (Some line) = part text line.text line.end ∷ []
-
-abbrev pub named_bytes : List ℕ → Option Span → List (List ℕ)
-named_bytes text None = []
-named_bytes text (Some span) = part text span.start span.end ∷ []
 
 abbrev pub said_bytes : List ℕ → Death → List (List ℕ)
 said_bytes text d = part text d.telling.text d.telling.end ∷ second_bytes text d.second
@@ -127,10 +149,15 @@ rest_bytes text at None = part text at (below text at 16) ∷ []
 rest_bytes text at (Some line) =
     part text at line.start ∷ part text line.start line.next ∷ part text line.next (below text line.next 16) ∷ []
 
-abbrev pub around_bytes : List ℕ → Death → List (List ℕ)
-around_bytes text d =
+abbrev pub excerpt_bytes : List ℕ → Death → List (List ℕ)
+excerpt_bytes text d =
     part text (place_above text d.telling.start 8) d.telling.start ∷ part text d.telling.start d.telling.next
     ∷ rest_bytes text d.telling.next d.second
+
+abbrev pub around_bytes : List ℕ → Death → List (List ℕ)
+around_bytes text d =
+    some_bytes (part text 0 (place_above text d.telling.start 8)) ++ excerpt_bytes text d
+    ++ some_bytes (part text (rest_end text d.telling.next d.second) (length text))
 
 abbrev pub why_bytes : Option DeathTold → List (List ℕ)
 why_bytes None = []

@@ -1,10 +1,14 @@
 -- How a log ends that tells of no death
 use Rattle.std.specs.Prelude.{ℕ, List, [], ◌∷◌, ◌++◌, codes, Option, Some, None}
+use Rattle.zone_spec.specs.declared.Name.{Name}
+use Rattle.zone_spec.specs.Records.{Saved}
 use Rattle.death_spec.specs.declared.Line.{Line}
 use Rattle.death_spec.specs.Lines.{part}
 use Rattle.report_spec.specs.Packed.{readable}
 use Rattle.report_spec.specs.Ends.{EndTold, end_words}
 use Rattle.report_spec.specs.Facts.{uptime_of, machine_ended}
+use Rattle.report_html.specs.declared.words.TheConstants.{READ}
+use Rattle.report_html.specs.Reads.{read_parts}
 use Rattle.report_html.specs.Pieces.{Part, Words, Bytes, Link}
 use Rattle.report_html.specs.Facts.{when_parts, up_parts, machine_parts, some_bytes, machine_bytes}
 
@@ -21,16 +25,22 @@ last_parts text line =
     Words (codes "<tr><th scope=\"row\">Last line</th><td>") ∷ Bytes (part text line.text line.end)
     ∷ Words (codes "</td></tr>\n") ∷ []
 
--- when, how long the machine had been up, the last line, the machine, and which record tells
-abbrev pub end_facts : EndTold → List Part
-end_facts t =
-    when_parts t.teller.time ++ up_parts (uptime_of (readable t.teller) t.ended.line)
-    ++ last_parts (readable t.teller) t.ended.line ++ machine_parts (machine_ended t) ++ Words (codes "<tr><th scope=\"row\">Told by</th><td>")
-    ∷ Link t.teller.name ∷ Words (codes "</td></tr>\n</table>\n</header>\n<main>\n") ∷ []
+-- which record tells: a link, and how it read
+abbrev pub told_parts : List Saved → Name → List Part
+told_parts zones name =
+    Words (codes "<tr><th scope=\"row\">Told by</th><td>") ∷ Link name ∷ Words READ.now ∷ [] ++ read_parts zones name
+    ++ Words (codes "</td></tr>\n</table>\n</header>\n<main>\n") ∷ []
 
-abbrev pub end_parts : Option EndTold → List Part
-end_parts None = Words (codes "</header>\n<main>\n") ∷ []
-end_parts (Some t) = end_facts t
+-- when, how long the machine had been up, the last line, the machine, and which record of these zones tells
+abbrev pub end_facts : List Saved → EndTold → List Part
+end_facts zones t =
+    when_parts t.teller.time ++ up_parts (uptime_of (readable t.teller) t.ended.line)
+    ++ last_parts (readable t.teller) t.ended.line ++ machine_parts (machine_ended t)
+    ++ told_parts zones t.teller.name
+
+abbrev pub end_parts : List Saved → Option EndTold → List Part
+end_parts zones None = Words (codes "</header>\n<main>\n") ∷ []
+end_parts zones (Some t) = end_facts zones t
 
 -- what of it comes from the image
 abbrev pub end_bytes : Option EndTold → List (List ℕ)

@@ -1,6 +1,8 @@
 -- Rows of what is known of a death, or of the end of a log
 use Rattle.std.specs.Prelude.{ℕ, List, [], ◌∷◌, ◌++◌, codes, Option, Some, None}
 use Rattle.zone_spec.specs.declared.Time.{Time}
+use Rattle.death_spec.specs.declared.Span.{Span}
+use Rattle.death_spec.specs.Lines.{part}
 use Rattle.report_spec.specs.Facts.{MachineTold, seconds_from}
 use Rattle.report_html.specs.Pieces.{Part, Words, Bytes, Moment, Long}
 
@@ -33,6 +35,10 @@ machine_parts m =
     ++ bytes_parts (codes "Version") m.version ++ bytes_parts (codes "Command line") m.cmdline
 
 -- ---- what of it comes from the image
+
+abbrev pub named_bytes : List ℕ → Option Span → List (List ℕ)
+named_bytes text None = []
+named_bytes text (Some span) = part text span.start span.end ∷ []
 
 abbrev pub some_bytes : List ℕ → List (List ℕ)
 some_bytes [] = []

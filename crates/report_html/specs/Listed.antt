@@ -1,17 +1,19 @@
--- The list of records: the line above each, and which is unfolded
+-- The list of records: the summary of each, and which is unfolded
+use Rattle.std.specs.Option.{option_map}
 use Rattle.std.specs.Prelude.{ℕ, ◌==◌, Bool, true, false, if◌then◌else◌, List, [], ◌∷◌, ◌++◌, codes, Option, Some, None}
 use Rattle.zone_spec.specs.declared.Name.{Name}
 use Rattle.zone_spec.specs.declared.Name.TheVariants.{Dump, Console, Pmsg, Ftrace}
+use Rattle.death_spec.specs.declared.Line.{Line}
 use Rattle.death_spec.specs.declared.Span.{Span}
 use Rattle.death_spec.specs.declared.Death.{Death}
-use Rattle.death_spec.specs.Lines.{part}
+use Rattle.death_spec.specs.Lines.{lines_from, part}
 use Rattle.death_spec.specs.Reports.{death_of}
 use Rattle.report_spec.specs.Packed.{RecordShown, readable}
 use Rattle.report_spec.specs.Newest.{is_console}
 use Rattle.report_spec.specs.Deaths.{DeathTold}
 use Rattle.report_html.specs.Pieces.{Part, Words, Bytes}
 
--- ---- the line above a record
+-- ---- what a summary tells
 
 -- the function that the report below the telling line names
 abbrev pub below_parts : List ℕ → Option Span → List Part
@@ -31,10 +33,22 @@ above_parts Console text = telling_parts text (death_of text)
 above_parts Pmsg text = Words (codes "messages of user space") ∷ []
 above_parts Ftrace text = Words (codes "function trace") ∷ []
 
--- the line above a record of this name and text
+-- the line above the name of a record with this text
 abbrev pub say_parts : Name → List ℕ → List Part
 say_parts name text =
-    Words (codes "<pre class=\"say\">") ∷ [] ++ above_parts name text ++ Words (codes "</pre>\n") ∷ []
+    Words (codes "<span class=\"say\">") ∷ [] ++ above_parts name text ++ Words (codes "</span>\n<b>") ∷ []
+
+abbrev pub first_parts : List ℕ → List Line → List Part
+first_parts text [] = []
+first_parts text (line ∷ lines) =
+    Words (codes "<span>") ∷ Bytes (part text line.start line.end) ∷ Words (codes "</span>") ∷ []
+
+-- the first line of a dump, such as `Oops#7 Part1`
+abbrev pub head_parts : Name → List ℕ → List Part
+head_parts (Dump index packed) text = first_parts text (lines_from text 0)
+head_parts Console text = []
+head_parts Pmsg text = []
+head_parts Ftrace text = []
 
 -- ---- which record is unfolded
 
@@ -61,12 +75,31 @@ abbrev pub is_unfolded : Option ℕ → Name → Bool
 is_unfolded None name = false
 is_unfolded (Some number) name = is_numbered number name
 
+-- ---- which record tells
+
+abbrev pub teller_name : Option DeathTold → Option Name
+teller_name told = option_map (λ (t : DeathTold). t.teller.name) told
+
+abbrev pub is_same_record : Name → Name → Bool
+is_same_record (Dump index packed) name = is_numbered index name
+is_same_record Console name = is_console name
+is_same_record Pmsg name = false
+is_same_record Ftrace name = false
+
+abbrev pub is_teller : Option Name → Name → Bool
+is_teller None name = false
+is_teller (Some teller) name = is_same_record teller name
+
+abbrev pub mark_parts : Bool → List Part
+mark_parts true = Words (codes "<mark>tells why it died</mark>") ∷ []
+mark_parts false = []
+
 -- where a record to fold begins
 abbrev pub fold_parts : Bool → List Part
-fold_parts true = Words (codes "<details open>\n<summary><b>") ∷ []
-fold_parts false = Words (codes "<details>\n<summary><b>") ∷ []
+fold_parts true = Words (codes "<details open>\n<summary>") ∷ []
+fold_parts false = Words (codes "<details>\n<summary>") ∷ []
 
--- ---- what of the line comes from the image
+-- ---- what of it comes from the image
 
 abbrev pub below_bytes : List ℕ → Option Span → List (List ℕ)
 below_bytes text None = []
@@ -82,6 +115,23 @@ above_bytes Console text = telling_bytes text (death_of text)
 above_bytes Pmsg text = []
 above_bytes Ftrace text = []
 
--- the line above a record, and what people read of it
-abbrev pub record_bytes : RecordShown → List (List ℕ)
-record_bytes r = above_bytes r.name (readable r) ++ readable r ∷ []
+abbrev pub first_bytes : List ℕ → List Line → List (List ℕ)
+first_bytes text [] = []
+first_bytes text (line ∷ lines) = part text line.start line.end ∷ []
+
+abbrev pub head_bytes : Name → List ℕ → List (List ℕ)
+head_bytes (Dump index packed) text = first_bytes text (lines_from text 0)
+head_bytes Console text = []
+head_bytes Pmsg text = []
+head_bytes Ftrace text = []
+
+-- the lines of the record that tells stand above the list
+abbrev pub content_bytes : Bool → List ℕ → List (List ℕ)
+content_bytes true text = []
+content_bytes false text = text ∷ []
+
+-- what a summary tells of a record, and what people read of it
+abbrev pub record_bytes : Option Name → RecordShown → List (List ℕ)
+record_bytes teller r =
+    above_bytes r.name (readable r) ++ head_bytes r.name (readable r)
+    ++ content_bytes (is_teller teller r.name) (readable r)

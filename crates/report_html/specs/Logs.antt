@@ -1,7 +1,7 @@
 -- A log as a page shows it: line by line, each in its level's colour
 use Rattle.std.specs.Prelude.{ℕ, ◌==◌, if◌then◌else◌, List, ◌++◌, flat_map, codes, Option, Some, None}
 use Rattle.death_spec.specs.declared.Line.{Line}
-use Rattle.death_spec.specs.Lines.{lines_from, level_of, part}
+use Rattle.death_spec.specs.Lines.{lines_from, level_of, is_kernels, part}
 use Rattle.report_spec.specs.Escaped.{escaped}
 
 -- a line with its newline
@@ -15,6 +15,10 @@ level_words level =
     else (if level == 4 then codes "<i class=\"l4\">" else (if level == 5 then codes "<i class=\"l5\">"
     else codes "<i class=\"l7\">")))))
 
+-- a line of a program tells nothing of the kernel: its level is not shown
+abbrev pub level_shown : List ℕ → Line → Option ℕ
+level_shown text line = if is_kernels text line then level_of text line else None
+
 -- a line without a level, and one of level 6, which tells of nothing wrong, is plain
 abbrev pub line_by : Option ℕ → List ℕ → List ℕ
 line_by None bytes = escaped bytes
@@ -22,7 +26,7 @@ line_by (Some level) bytes =
     if level == 6 then escaped bytes else level_words level ++ escaped bytes ++ codes "</i>"
 
 abbrev pub line_text : List ℕ → Line → List ℕ
-line_text text line = line_by (level_of text line) (line_bytes text line)
+line_text text line = line_by (level_shown text line) (line_bytes text line)
 
 unfoldable pub log_text : List ℕ → List ℕ
 log_text text = flat_map (line_text text) (lines_from text 0)

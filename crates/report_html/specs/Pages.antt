@@ -1,5 +1,5 @@
 -- The page of a report
-use Rattle.std.specs.Prelude.{ℕ, Bool, List, [], ◌∷◌, ◌++◌, length, codes, Option, Some, None}
+use Rattle.std.specs.Prelude.{ℕ, Bool, true, false, List, [], ◌∷◌, ◌++◌, length, codes, Option, Some, None}
 use Rattle.zone_spec.specs.declared.Name.{Name}
 use Rattle.zone_spec.specs.declared.Time.{Time}
 use Rattle.zone_spec.specs.declared.Zone.{Zone}
@@ -16,13 +16,14 @@ use Rattle.report_spec.specs.Facts.{signature_told}
 use Rattle.region_report.specs.Reports.{ReportHeld}
 use Rattle.report_html.specs.declared.style.TheConstants.{STYLE}
 use Rattle.report_html.specs.declared.words.TheConstants.{HEAD, NAVIGATION, LEVELS, END}
-use Rattle.report_html.specs.Pieces.{Part, Words, Count, Bytes, Moment, Log, Named, parts_text}
+use Rattle.report_html.specs.Pieces.{Part, Words, Count, Bytes, Moment, Log, Named, Link, parts_text}
 use Rattle.report_html.specs.Ended.{words_of}
 use Rattle.report_html.specs.Died.{why_parts, died_parts}
 use Rattle.report_html.specs.Warnings.{warnings_parts}
 use Rattle.report_html.specs.Reads.{read_parts}
 use Rattle.report_html.specs.Parameters.{parameters_parts}
-use Rattle.report_html.specs.Listed.{say_parts, fold_parts, is_unfolded, unfolded}
+use Rattle.report_html.specs.Listed.{say_parts, head_parts, mark_parts, fold_parts, is_unfolded, unfolded}
+use Rattle.report_html.specs.Listed.{teller_name, is_teller}
 use Rattle.report_html.specs.Groups.{are_grouped, group_in, edge_parts}
 use Rattle.report_html.specs.Causes.{causes_parts}
 use Rattle.report_html.specs.Regions.{picture}
@@ -42,34 +43,44 @@ packing_parts (Whole taken) =
 packing_parts (PartOfText fault text) =
     Words (codes "<span class=\"fix\">inflated in part: ") ∷ Words (fault_words fault) ∷ Words (codes "</span>") ∷ []
 
--- its lines, with its name as their anchor
-abbrev pub content_parts : Name → List ℕ → List Part
-content_parts name content =
+-- its lines, with its name as their anchor; or where they stand, if it tells why the machine died
+abbrev pub content_parts : Bool → Name → List ℕ → List Part
+content_parts true name content =
+    Words (codes "</summary>\n<p class=\"note\">Its lines stand above: ") ∷ Link name
+    ∷ Words (codes "</p>\n</details>\n") ∷ []
+content_parts false name content =
     Words (codes "</summary>\n<pre class=\"log\" id=\"") ∷ Named name ∷ Words (codes "\">\n") ∷ Log content
     ∷ Words (codes "</pre>\n</details>\n") ∷ []
 
--- a record, folded or not: above it the line that tells of it; its name, its time, the length of its file, its
--- packing and how it read; and what people read of it
-abbrev pub record_parts : List Saved → Bool → RecordShown → List Part
-record_parts zones is_open r =
-    say_parts r.name (readable r) ++ fold_parts is_open ++ Named r.name ∷ Words (codes "</b>") ∷ []
-    ++ time_parts r.time ++ length_parts (length r.content) ++ packing_parts r.packing
-    ++ read_parts zones r.name ++ content_parts r.name (readable r)
+-- the summary of a record: the line that tells of it, its name, a dump's first line, whether it tells why the machine
+-- died, its time, the length of its file, its packing and how it read
+abbrev pub summary_parts : List Saved → Bool → RecordShown → List Part
+summary_parts zones tells r =
+    say_parts r.name (readable r) ++ Named r.name ∷ Words (codes "</b>") ∷ [] ++ head_parts r.name (readable r)
+    ++ mark_parts tells ++ time_parts r.time ++ length_parts (length r.content) ++ packing_parts r.packing
+    ++ read_parts zones r.name
 
--- a record in the list, in which at most the dump of one number is unfolded
-abbrev pub listed_parts : List Saved → Option ℕ → RecordShown → List Part
-listed_parts zones number r = record_parts zones (is_unfolded number r.name) r
+-- a record, folded or not: its summary, and what people read of it
+abbrev pub record_parts : List Saved → (is_open tells : Bool) → RecordShown → List Part
+record_parts zones is_open tells r =
+    fold_parts is_open ++ summary_parts zones tells r ++ content_parts tells r.name (readable r)
+
+-- a record in the list, in which at most the dump of one number is unfolded, and the one of this name tells
+abbrev pub listed_parts : List Saved → Option ℕ → Option Name → RecordShown → List Part
+listed_parts zones number teller r = record_parts zones (is_unfolded number r.name) (is_teller teller r.name) r
 
 -- records after one of a group: where the group changes it ends, and the next one begins
-unfoldable pub records_after : List Saved → (grouped : Bool) (number before : Option ℕ) → List RecordShown → List Part
-records_after zones grouped number before [] = edge_parts number before None
-records_after zones grouped number before (r ∷ rs) =
-    edge_parts number before (group_in grouped r.name) ++ listed_parts zones number r
-    ++ records_after zones grouped number (group_in grouped r.name) rs
+unfoldable pub records_after : List Saved → (grouped : Bool) (number : Option ℕ) (teller : Option Name) (before : Option ℕ)
+    → List RecordShown → List Part
+records_after zones grouped number teller before [] = edge_parts number before None
+records_after zones grouped number teller before (r ∷ rs) =
+    edge_parts number before (group_in grouped r.name) ++ listed_parts zones number teller r
+    ++ records_after zones grouped number teller (group_in grouped r.name) rs
 
 abbrev pub list_parts : List Zone → ReportHeld → Option DeathTold → List Part
 list_parts zones report told =
-    records_after (saved report.logs) (are_grouped zones) (unfolded (newest report.records) told) None report.records
+    records_after (saved report.logs) (are_grouped zones) (unfolded (newest report.records) told) (teller_name told) None
+    report.records
 
 -- how many there are, and what the number of a line means
 abbrev pub records_opening : ℕ → List Part
@@ -97,7 +108,7 @@ heading_parts title named =
 abbrev pub page_with : List ℕ → Division → List Zone → ReportHeld → List ℕ → Option DeathTold → List Part
 page_with title division zones report signature told =
     heading_parts title (named_parts signature report.records told) ++ why_parts report.records told
-    ++ warnings_parts report told ++ died_parts signature report.records told
+    ++ warnings_parts report told ++ died_parts signature (saved report.logs) report.records told
     ++ records_opening (length report.records) ++ causes_parts report.records ++ list_parts zones report told
     ++ picture zones report ++ parameters_parts division ++ Words END.now ∷ []
 

@@ -43,33 +43,6 @@ read_words (Some r) = state_words r.state
 abbrev pub share : (part whole : ℕ) → ℕ
 share part whole = if whole == 0 then 0 else part * 100_000 / whole
 
--- the class of a zone by its worst part, and the rows of its bar: the worse, the higher
-abbrev pub state_bar : State → List ℕ
-state_bar Unsigned = codes "off\" y=\"48\" height=\"4\" width=\""
-state_bar Empty = codes "off\" y=\"48\" height=\"4\" width=\""
-state_bar Invalid = codes "off\" y=\"48\" height=\"4\" width=\""
-state_bar Found = codes "ok\" y=\"42\" height=\"10\" width=\""
-
-abbrev pub reading_bar : ZoneReading → List ℕ
-reading_bar r =
-    if nat_lt 0 r.bad then codes "bad\" y=\"30\" height=\"22\" width=\""
-    else (if nat_lt 0 r.corrected then codes "fix\" y=\"36\" height=\"16\" width=\"" else state_bar r.state)
-
-abbrev pub bar_words : Option ZoneReading → List ℕ
-bar_words None = codes "off\" y=\"48\" height=\"4\" width=\""
-bar_words (Some r) = reading_bar r
-
--- the bytes that a zone has in use, with its header; all if it was not found
-abbrev pub used_by : Zone → ZoneReading → State → ℕ
-used_by z r Unsigned = z.size
-used_by z r Empty = z.size
-used_by z r Invalid = z.size
-used_by z r Found = 12 + r.words.size
-
-abbrev pub used_bytes : Zone → Option ZoneReading → ℕ
-used_bytes z None = z.size
-used_bytes z (Some r) = used_by z r r.state
-
 abbrev pub label_opening : (size whole : ℕ) → List ℕ
 label_opening size whole =
     if nat_lt (8 * size) whole then codes "<g class=\"slim\"><text x=\"3\" y=\"13\">"
@@ -89,35 +62,31 @@ place_parts whole z =
     Words (codes "<svg x=\"") ∷ Count (share z.at whole) ∷ Words (codes "e-3%\" width=\"") ∷ Count (share z.size whole)
     ∷ Words (codes "e-3%\"><title>") ∷ []
 
-abbrev pub bar_parts : Zone → Option ZoneReading → List Part
-bar_parts z r =
-    Words (codes ": ") ∷ Words (read_words r) ∷ Words FRAME.now ∷ Words (bar_words r)
-    ∷ Count (share (used_bytes z r) z.size) ∷ Words (codes "e-3%\"/>") ∷ []
-
--- a zone in the map, as wide as its share of the region
-abbrev pub map_parts : ℕ → Zone → Option ZoneReading → List Part
-map_parts whole z r =
-    place_parts whole z ++ zone_name z ++ bar_parts z r ++ label_parts z whole ++ Words (codes "</svg>\n") ∷ []
-
 -- ---- the strip of a zone
 
--- the class of parts by how they read, and their rows: the worse, the higher. None where they are not in use
+-- the class of parts by how they read. None where they are not in use
 abbrev pub class_words : Option PartState → List ℕ
-class_words None = codes "off\" y=\"20\" height=\"4\" x=\""
-class_words (Some (Read n)) =
-    if n == 0 then codes "ok\" y=\"12\" height=\"12\" x=\"" else codes "fix\" y=\"6\" height=\"18\" x=\""
-class_words (Some Bad) = codes "bad\" y=\"0\" height=\"24\" x=\""
+class_words None = codes "off"
+class_words (Some (Read n)) = if n == 0 then codes "ok" else codes "fix"
+class_words (Some Bad) = codes "bad"
+
+-- of 24 rows, those above them: the worse, the fewer, and one fewer for each byte that was corrected, up to nine
+abbrev pub rows_above : Option PartState → ℕ
+rows_above None = 20
+rows_above (Some (Read n)) = if n == 0 then 12 else 10 - min n 9
+rows_above (Some Bad) = 0
 
 abbrev pub part_words : Option PartState → List ℕ
 part_words None = codes "not in use"
 part_words (Some (Read n)) = if n == 0 then codes "clean" else codes "corrected"
 part_words (Some Bad) = codes "bad"
 
--- where a rectangle begins: its class, the byte of the zone it begins at and its width in bytes
-abbrev pub opening : (class : List ℕ) (at width : ℕ) → List Part
-opening class at width =
-    Words (codes "<rect class=\"") ∷ Words class ∷ Count at ∷ Words (codes "\" width=\"") ∷ Count width
-    ∷ Words (codes "\"><title>") ∷ []
+-- where a rectangle begins: its class, its rows, the byte of the zone it begins at and its width in bytes
+abbrev pub opening : Option PartState → (at width : ℕ) → List Part
+opening state at width =
+    Words (codes "<rect class=\"") ∷ Words (class_words state) ∷ Words (codes "\" y=\"") ∷ Count (rows_above state)
+    ∷ Words (codes "\" height=\"") ∷ Count (24 - rows_above state) ∷ Words (codes "\" x=\"") ∷ Count at
+    ∷ Words (codes "\" width=\"") ∷ Count width ∷ Words (codes "\"><title>") ∷ []
 
 abbrev pub closing : List Part
 closing = Words (codes "</title></rect>\n") ∷ []
@@ -133,7 +102,7 @@ corrected_parts (Some Bad) = []
 -- the 12 bytes of the header
 abbrev pub header_parts : Option PartState → List Part
 header_parts state =
-    opening (class_words state) 0 12 ++ Words (codes "header, ") ∷ Words (part_words state) ∷ []
+    opening state 0 12 ++ Words (codes "header, ") ∷ Words (part_words state) ∷ []
     ++ corrected_parts state ++ closing
 
 -- where a block's data begin among those of its zone
@@ -141,8 +110,8 @@ abbrev pub block_at : Zone → ℕ → ℕ
 block_at z b = min (z.block * b) z.cap
 
 -- the rectangle of a zone's blocks from one up to another: their data begin after the 12 bytes of its header
-abbrev pub blocks_opening : Zone → (from to : ℕ) (class : List ℕ) → List Part
-blocks_opening z from to class = opening class (block_at z from + 12) (block_at z to - block_at z from)
+abbrev pub blocks_opening : Zone → (from to : ℕ) → Option PartState → List Part
+blocks_opening z from to state = opening state (block_at z from + 12) (block_at z to - block_at z from)
 
 -- the numbers of blocks from one up to another: `3`, or `3 to 7`
 abbrev pub numbers_parts : (from to : ℕ) → List Part
@@ -159,7 +128,7 @@ range_parts from to words =
 -- blocks that read alike
 abbrev pub blocks_parts : Zone → (from to : ℕ) → Option PartState → List Part
 blocks_parts z from to state =
-    blocks_opening z from to (class_words state) ++ range_parts from to (part_words state)
+    blocks_opening z from to state ++ range_parts from to (part_words state)
     ++ corrected_parts state ++ closing
 
 -- neighbouring blocks that read alike
@@ -193,6 +162,36 @@ run_parts z r = blocks_parts z r.from r.to (Some r.state)
 abbrev pub unused_parts : Zone → ℕ → List Part
 unused_parts z used = if nat_lt used z.blocks then blocks_parts z used z.blocks None else []
 
+abbrev pub outline_parts : (at width : ℕ) → List Part
+outline_parts at width =
+    Words (codes "<rect class=\"par\" y=\"12\" height=\"12\" x=\"") ∷ Count at ∷ Words (codes "\" width=\"")
+    ∷ Count width ∷ Words (codes "\"><title>parity</title></rect>\n") ∷ []
+
+-- the parity, which stands after the data
+abbrev pub parity_parts : Zone → List Part
+parity_parts z = if nat_lt (12 + z.cap) z.size then outline_parts (12 + z.cap) (z.size - (12 + z.cap)) else []
+
+abbrev pub strip_opening : ℕ → List Part
+strip_opening size =
+    Words (codes "0 0 ") ∷ Count size ∷ Words (codes " 24\" preserveAspectRatio=\"none\">\n") ∷ []
+
+-- the bytes of a zone from left to right: its header, its blocks and its parity
+abbrev pub strip_parts : Zone → PartStates → List Part
+strip_parts z p =
+    strip_opening z.size ++ header_parts (Some p.header) ++ flat_map (run_parts z) (runs 0 p.blocks) ++ unused_parts z (length p.blocks)
+    ++ parity_parts z ++ Words (codes "</svg>") ∷ []
+
+-- ---- a zone in the map
+
+abbrev pub frame_parts : Option ZoneReading → List Part
+frame_parts r = Words (codes ": ") ∷ Words (read_words r) ∷ Words FRAME.now ∷ []
+
+-- a zone as wide as its share of the region, with its strip
+abbrev pub map_parts : ℕ → Saved × PartStates → List Part
+map_parts whole d =
+    place_parts whole d.0.0 ++ zone_name d.0.0 ++ frame_parts d.0.1 ++ strip_parts d.0.0 d.1
+    ++ label_parts d.0.0 whole ++ Words (codes "</svg>\n") ∷ []
+
 -- ---- the table of zones
 
 -- the words of a header as it reads, corrected bytes and bad parts
@@ -208,25 +207,23 @@ abbrev pub read_cells : Option ZoneReading → List Part
 read_cells None = unread_cells
 read_cells (Some r) = reading_cells r
 
--- a zone's name, state, place and size, and what was read; and below them room for its strip
+-- a zone's name, state, place and size, and what was read; and where its strip begins below them
 abbrev pub row_parts : Zone → Option ZoneReading → List Part
 row_parts z r =
     Words (codes "<tr><th scope=\"row\">") ∷ [] ++ zone_name z ++ Words (codes "</th><td>") ∷ Words (read_words r)
     ∷ Words CELL.now ∷ Count z.at ∷ Words CELL.now ∷ Count z.size ∷ [] ++ read_cells r
-    ++ Words STRIP.now ∷ Count z.size ∷ Words (codes " 24\" preserveAspectRatio=\"none\">\n") ∷ []
+    ++ Words STRIP.now ∷ []
 
--- a zone with its reading, its header and its blocks
+-- a zone with its reading and its strip
 abbrev pub zone_parts : Saved × PartStates → List Part
-zone_parts d =
-    row_parts d.0.0 d.0.1 ++ header_parts (Some d.1.header) ++ flat_map (run_parts d.0.0) (runs 0 d.1.blocks)
-    ++ unused_parts d.0.0 (length d.1.blocks) ++ Words (codes "</svg></td></tr>\n") ∷ []
+zone_parts d = row_parts d.0.0 d.0.1 ++ strip_parts d.0.0 d.1 ++ Words (codes "</td></tr>\n") ∷ []
 
 -- ---- the whole
 
 -- a zone in the table, or in the map of so many bytes
 abbrev pub drawn_parts : Bool → ℕ → Saved × PartStates → List Part
 drawn_parts true whole d = zone_parts d
-drawn_parts false whole d = map_parts whole d.0.0 d.0.1
+drawn_parts false whole d = map_parts whole d
 
 -- where a zone ends
 abbrev pub end_of : Option Zone → ℕ

@@ -5,12 +5,12 @@ ghost use Rattle.report_spec.specs.Newest.{is_newer};
 ghost use Rattle.region_report.specs.Tellers.{told_in};
 ghost use Rattle.report_html.specs.Pieces.{parts};
 ghost use Rattle.report_html.specs.Before.{told_before as told_by_newest, teller_in, newer_told as told_by_newer};
-ghost use Rattle.report_html.specs.Before.{time_after, line_below, before_parts};
+ghost use Rattle.report_html.specs.Before.{time_after, line_below, named_below, context_below, before_parts};
 ghost use Rattle.report_html.specs.Escaping.{TellsBytes};
 
 use crate::pieces::{Piece, add};
 use death::part;
-use death_spec::Line;
+use death_spec::{Death, Line, Span};
 use region_report::{RecordReport, Telling, is_newer, other_told};
 use std::alloc::AllocError;
 use zone_spec::{Name, Time};
@@ -72,9 +72,43 @@ fn add_line_below<'a>(
         &[
             Piece::Own("\n"),
             Piece::Foreign(part(text, line.text, line.end)),
-            Piece::Own("</td></tr>\n"),
         ],
     )
+}
+
+fn add_named<'a>(
+    pieces: &mut Vec<Piece<'a>>,
+    words: &'static str,
+    text: &'a [u8],
+    span: Option<Span>,
+) -> Result<(), AllocError>
+    ensures { OnOk result (parts pieces.new.items
+        ≡ parts pieces.old.items ++ named_below words.entry.now text.entry.now span) }
+{
+    match span {
+        Some(span) => add(
+            pieces,
+            &[
+                Piece::Own(words),
+                Piece::Foreign(part(text, span.start, span.end)),
+            ],
+        ),
+        None => Ok(()),
+    }
+}
+
+/// Adds what the report below the telling line names.
+fn add_context<'a>(
+    pieces: &mut Vec<Piece<'a>>,
+    text: &'a [u8],
+    death: Death,
+) -> Result<(), AllocError>
+    ensures { OnOk result (parts pieces.new.items ≡ parts pieces.old.items ++ context_below text.entry.now death) }
+{
+    add_named(pieces, "\nCPU ", text, death.cpu)?;
+    add_named(pieces, "\nFunction ", text, death.function)?;
+    add_named(pieces, "\nTask ", text, death.task)?;
+    Ok(())
 }
 
 fn add_told<'a>(pieces: &mut Vec<Piece<'a>>, told: Telling<'a>) -> Result<(), AllocError>
@@ -91,7 +125,10 @@ fn add_told<'a>(pieces: &mut Vec<Piece<'a>>, told: Telling<'a>) -> Result<(), Al
         ],
     )?;
     add_time_after(pieces, teller.time)?;
-    add_line_below(pieces, teller.readable(), told.death.telling)?;
+    let text = teller.readable();
+    add_line_below(pieces, text, told.death.telling)?;
+    add_context(pieces, text, told.death)?;
+    add(pieces, &[Piece::Own("</td></tr>\n")])?;
     Ok(())
 }
 

@@ -1,12 +1,14 @@
 // Why the machine died: the line that tells it, what is known of it, and the lines around it.
-ghost use Rattle.std.specs.Prelude.{◌≡◌, ◌++◌, OnOk};
+ghost use Rattle.std.specs.Prelude.{◌≡◌, ◌++◌, length, OnOk};
 ghost use Rattle.zone_spec.specs.Parts.{AreBytes};
 ghost use Rattle.std.specs.Option.{option_copied};
+ghost use Rattle.prz_read.specs.Saving.{saved};
 ghost use Rattle.region_report.specs.Tellers.{as_told, told_in};
 ghost use Rattle.report_html.specs.Pieces.{parts};
 ghost use Rattle.report_html.specs.Died.{second_parts, said_parts, why_parts, fact_parts};
 ghost use Rattle.report_html.specs.Died.{context_parts, log_parts};
-ghost use Rattle.report_html.specs.Died.{marked_parts, rest_parts, around_parts, shared_words, console_words};
+ghost use Rattle.report_html.specs.Died.{marked_parts, rest_parts, rest_end, excerpt_parts, folded_parts, shown_opening};
+ghost use Rattle.report_html.specs.Died.{around_parts, shared_words, console_words};
 ghost use Rattle.report_html.specs.Died.{teller_parts, death_parts, died_parts};
 ghost use Rattle.report_html.specs.Escaping.{AreDeathBytes, AllTellBytes};
 
@@ -15,9 +17,11 @@ use crate::ended::{add_end, add_ended};
 use crate::facts::{add_bytes, add_machine, add_up, add_when};
 use crate::listed::is_console;
 use crate::pieces::{Piece, add};
-use crate::words::{NO_CPU, NO_FUNCTION, TOLD};
+use crate::reads::add_read;
+use crate::words::{NO_CPU, NO_FUNCTION, READ, TOLD};
 use death::part;
 use death_spec::{Death, Line, Span};
+use prz_read::Logs;
 use region_report::{
     RecordReport, Telling, below, console, end_told, has_telling_line, machine_told, place_above,
     uptime,
@@ -168,21 +172,89 @@ fn add_rest<'a>(
     }
 }
 
+/// Where the lines end that are shown below the telling line.
+fn rest_end(text: &[u8], at: usize, second: Option<Line>) -> usize
+    ensures { result ≡ rest_end text.now at second }
+{
+    match second {
+        Some(line) => below(text, line.next, BELOW),
+        None => below(text, at, BELOW),
+    }
+}
+
 /// Adds the lines around those that tell.
-fn add_around<'a>(
+fn add_excerpt<'a>(
     pieces: &mut Vec<Piece<'a>>,
     text: &'a [u8],
     death: Death,
 ) -> Result<(), AllocError>
-    ensures bytes { AreBytes text.entry.now }
-    ensures parts { OnOk result (parts pieces.new.items
-        ≡ parts pieces.old.items ++ around_parts text.entry.now death) }
+    ensures { OnOk result (parts pieces.new.items ≡ parts pieces.old.items ++ excerpt_parts text.entry.now death) }
 {
     let telling = death.telling;
     let from = place_above(text, telling.start, ABOVE);
     add_log(pieces, text, from, telling.start)?;
     add_marked(pieces, text, telling)?;
     add_rest(pieces, text, telling.next, death.second)
+}
+
+/// Adds lines that are folded, if there are any.
+fn add_folded<'a>(
+    pieces: &mut Vec<Piece<'a>>,
+    words: &'static str,
+    bytes: &'a [u8],
+) -> Result<(), AllocError>
+    ensures { OnOk result (parts pieces.new.items
+        ≡ parts pieces.old.items ++ folded_parts words.entry.now bytes.entry.now) }
+{
+    if bytes.is_empty() {
+        return Ok(());
+    }
+    add(
+        pieces,
+        &[
+            Piece::Own("<details>\n<summary>"),
+            Piece::Own(words),
+            Piece::Own("</summary>\n<pre class=\"log\">\n"),
+            Piece::Log(bytes),
+            Piece::Own("</pre>\n</details>\n"),
+        ],
+    )
+}
+
+/// Begins the lines that are not folded.
+fn add_shown_opening(pieces: &mut Vec<Piece<'_>>, name: Name) -> Result<(), AllocError>
+    ensures { OnOk result (parts pieces.new.items ≡ parts pieces.old.items ++ shown_opening name) }
+{
+    add(
+        pieces,
+        &[
+            Piece::Own("<pre class=\"log\" id=\""),
+            Piece::Named(name),
+            Piece::Own("\">\n"),
+        ],
+    )
+}
+
+/// Adds all lines of the record that tells: those around the telling line, and those before and after, folded.
+fn add_around<'a>(
+    pieces: &mut Vec<Piece<'a>>,
+    name: Name,
+    text: &'a [u8],
+    death: Death,
+) -> Result<(), AllocError>
+    ensures bytes { OnOk result (AreBytes text.entry.now) }
+    ensures parts { OnOk result (parts pieces.new.items
+        ≡ parts pieces.old.items ++ around_parts name text.entry.now death) }
+{
+    let from = place_above(text, death.telling.start, ABOVE);
+    let to = rest_end(text, death.telling.next, death.second);
+    let (front, back) = (part(text, 0, from), part(text, to, text.len()));
+    add_folded(pieces, "Lines before", front)?;
+    add_shown_opening(pieces, name)?;
+    add_excerpt(pieces, text, death)?;
+    add(pieces, &[Piece::Own("</pre>\n")])?;
+    add_folded(pieces, "Lines after", back)?;
+    Ok(())
 }
 
 fn shared_text(is_shared: bool) -> &'static str
@@ -209,14 +281,15 @@ fn console_text(told: &Telling<'_>, console: Option<&RecordReport>) -> &'static 
     shared_text(has_telling_line(console, told))
 }
 
-/// Adds which record tells, and these words.
+/// Adds which record tells, these words, and how it read.
 fn add_teller(
     pieces: &mut Vec<Piece<'_>>,
+    logs: &Logs,
     name: Name,
     words: &'static str,
 ) -> Result<(), AllocError>
     ensures { OnOk result (parts pieces.new.items
-        ≡ parts pieces.old.items ++ teller_parts name words.entry.now) }
+        ≡ parts pieces.old.items ++ teller_parts (saved logs.now) name words.entry.now) }
 {
     add(
         pieces,
@@ -224,22 +297,27 @@ fn add_teller(
             Piece::Own("<tr><th scope=\"row\">Told by</th><td>"),
             Piece::Link(name),
             Piece::Own(words),
-            Piece::Own(TOLD),
-            Piece::Named(name),
-            Piece::Own("</h2>\n<pre class=\"log\">\n"),
+            Piece::Own(READ),
         ],
-    )
+    )?;
+    add_read(pieces, logs, name)?;
+    add(
+        pieces,
+        &[Piece::Own(TOLD), Piece::Named(name), Piece::Own("</h2>\n")],
+    )?;
+    Ok(())
 }
 
 fn add_death<'a>(
     pieces: &mut Vec<Piece<'a>>,
     signature: &'a [u8],
+    logs: &Logs,
     told: &Telling<'a>,
     records: &'a [RecordReport],
 ) -> Result<(), AllocError>
     ensures bytes { OnOk result (AreDeathBytes signature.entry.now records.entry.now (as_told told.now)) }
     ensures parts { OnOk result (parts pieces.new.items ≡ parts pieces.old.items
-        ++ death_parts signature.entry.now records.entry.now (as_told told.now)) }
+        ++ death_parts signature.entry.now (saved logs.now) records.entry.now (as_told told.now)) }
 {
     let teller: &'a RecordReport = told.teller;
     let text = teller.readable();
@@ -249,9 +327,9 @@ fn add_death<'a>(
     add_bytes(pieces, "Signature", signature)?;
     add_machine(pieces, machine_told(told, console(records)))?;
     add_before(pieces, teller.name, records)?;
-    add_teller(pieces, teller.name, console_text(told, console(records)))?;
-    add_around(pieces, text, told.death)?;
-    add(pieces, &[Piece::Own("</pre>\n")])?;
+    let words = console_text(told, console(records));
+    add_teller(pieces, logs, teller.name, words)?;
+    add_around(pieces, teller.name, text, told.death)?;
     Ok(())
 }
 
@@ -259,15 +337,17 @@ fn add_death<'a>(
 pub fn add_died<'a>(
     pieces: &mut Vec<Piece<'a>>,
     signature: &'a [u8],
+    logs: &Logs,
     records: &'a [RecordReport],
     told: Option<Telling<'a>>,
 ) -> Result<(), AllocError>
     ensures tells { OnOk result (AllTellBytes signature.entry.now records.entry.now (told_in told.entry)) }
     ensures parts { OnOk result (parts pieces.new.items
-        ≡ parts pieces.old.items ++ died_parts signature.entry.now records.entry.now (told_in told.entry)) }
+        ≡ parts pieces.old.items
+        ++ died_parts signature.entry.now (saved logs.now) records.entry.now (told_in told.entry)) }
 {
     match told {
-        Some(told) => add_death(pieces, signature, &told, records),
-        None => add_end(pieces, end_told(records)),
+        Some(told) => add_death(pieces, signature, logs, &told, records),
+        None => add_end(pieces, logs, end_told(records)),
     }
 }

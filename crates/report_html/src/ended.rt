@@ -1,17 +1,22 @@
 // How a log ends that tells of no death.
 ghost use Rattle.std.specs.Prelude.{◌≡◌, ◌++◌, OnOk};
 ghost use Rattle.zone_spec.specs.Parts.{AreBytes};
+ghost use Rattle.prz_read.specs.Saving.{saved};
 ghost use Rattle.region_report.specs.Tellers.{as_ended, end_in};
 ghost use Rattle.report_html.specs.Pieces.{parts};
-ghost use Rattle.report_html.specs.Ended.{words_of, ended_parts, last_parts, end_facts, end_parts};
+ghost use Rattle.report_html.specs.Ended.{words_of, ended_parts, last_parts, told_parts, end_facts, end_parts};
 ghost use Rattle.report_html.specs.Escaping.{AreEndBytes, EndsBytes};
 
 use crate::facts::{add_machine, add_up, add_when};
 use crate::pieces::{Piece, add};
+use crate::reads::add_read;
+use crate::words::READ;
 use death::part;
 use death_spec::Line;
+use prz_read::Logs;
 use region_report::{End, RecordReport, end_text, machine_ended, uptime};
 use std::alloc::AllocError;
+use zone_spec::Name;
 
 /// How the log ends, in words.
 pub fn words(end: Option<End<'_>>) -> &'static str
@@ -51,9 +56,30 @@ fn add_last<'a>(pieces: &mut Vec<Piece<'a>>, text: &'a [u8], line: Line) -> Resu
     )
 }
 
-fn add_facts<'a>(pieces: &mut Vec<Piece<'a>>, end: &End<'a>) -> Result<(), AllocError>
+/// Adds which record tells, and how it read.
+fn add_told(pieces: &mut Vec<Piece<'_>>, logs: &Logs, name: Name) -> Result<(), AllocError>
+    ensures { OnOk result (parts pieces.new.items ≡ parts pieces.old.items ++ told_parts (saved logs.now) name) }
+{
+    add(
+        pieces,
+        &[
+            Piece::Own("<tr><th scope=\"row\">Told by</th><td>"),
+            Piece::Link(name),
+            Piece::Own(READ),
+        ],
+    )?;
+    add_read(pieces, logs, name)?;
+    add(
+        pieces,
+        &[Piece::Own("</td></tr>\n</table>\n</header>\n<main>\n")],
+    )?;
+    Ok(())
+}
+
+fn add_facts<'a>(pieces: &mut Vec<Piece<'a>>, logs: &Logs, end: &End<'a>) -> Result<(), AllocError>
     ensures bytes { OnOk result (AreEndBytes (as_ended end.now)) }
-    ensures parts { OnOk result (parts pieces.new.items ≡ parts pieces.old.items ++ end_facts (as_ended end.now)) }
+    ensures parts { OnOk result (parts pieces.new.items ≡ parts pieces.old.items
+        ++ end_facts (saved logs.now) (as_ended end.now)) }
 {
     let teller: &'a RecordReport = end.teller;
     let text = teller.readable();
@@ -61,24 +87,22 @@ fn add_facts<'a>(pieces: &mut Vec<Piece<'a>>, end: &End<'a>) -> Result<(), Alloc
     add_up(pieces, uptime(text, end.ended.line))?;
     add_last(pieces, text, end.ended.line)?;
     add_machine(pieces, machine_ended(end))?;
-    add(
-        pieces,
-        &[
-            Piece::Own("<tr><th scope=\"row\">Told by</th><td>"),
-            Piece::Link(teller.name),
-            Piece::Own("</td></tr>\n</table>\n</header>\n<main>\n"),
-        ],
-    )?;
+    add_told(pieces, logs, teller.name)?;
     Ok(())
 }
 
 /// Adds what is known of the end of a log.
-pub fn add_end<'a>(pieces: &mut Vec<Piece<'a>>, end: Option<End<'a>>) -> Result<(), AllocError>
+pub fn add_end<'a>(
+    pieces: &mut Vec<Piece<'a>>,
+    logs: &Logs,
+    end: Option<End<'a>>,
+) -> Result<(), AllocError>
     ensures bytes { OnOk result (EndsBytes (end_in end.entry)) }
-    ensures parts { OnOk result (parts pieces.new.items ≡ parts pieces.old.items ++ end_parts (end_in end.entry)) }
+    ensures parts { OnOk result (parts pieces.new.items ≡ parts pieces.old.items
+        ++ end_parts (saved logs.now) (end_in end.entry)) }
 {
     match end {
-        Some(end) => add_facts(pieces, &end),
+        Some(end) => add_facts(pieces, logs, &end),
         None => add(pieces, &[Piece::Own("</header>\n<main>\n")]),
     }
 }

@@ -1,14 +1,16 @@
-// The list of records: the line above each, and which is unfolded.
+// The list of records: the summary of each, and which is unfolded.
 ghost use Rattle.std.specs.Prelude.{◌≡◌, ◌++◌, OnOk};
 ghost use Rattle.std.specs.Option.{option_copied};
 ghost use Rattle.report_spec.specs.Newest.{is_console};
 ghost use Rattle.region_report.specs.Tellers.{told_in};
 ghost use Rattle.report_html.specs.Pieces.{parts};
-ghost use Rattle.report_html.specs.Listed.{below_parts, telling_parts, above_parts, say_parts, dump_number, unfolded};
-ghost use Rattle.report_html.specs.Listed.{is_numbered, is_unfolded, fold_parts};
+ghost use Rattle.death_spec.specs.Lines.{lines_from};
+ghost use Rattle.report_html.specs.Listed.{below_parts, telling_parts, above_parts, say_parts, first_parts};
+ghost use Rattle.report_html.specs.Listed.{head_parts as head_of, dump_number, unfolded, is_numbered, is_unfolded};
+ghost use Rattle.report_html.specs.Listed.{teller_name, is_same_record, is_teller, mark_parts, fold_parts};
 
 use crate::pieces::{Piece, add};
-use death::{death, part};
+use death::{death, next_line, part};
 use death_spec::{Death, Span};
 use region_report::{RecordReport, Telling};
 use std::alloc::AllocError;
@@ -64,7 +66,7 @@ fn add_above<'a>(pieces: &mut Vec<Piece<'a>>, name: Name, text: &'a [u8]) -> Res
     }
 }
 
-/// Adds the line above a record.
+/// Adds the line above the name of a record with this text.
 pub fn add_say<'a>(
     pieces: &mut Vec<Piece<'a>>,
     name: Name,
@@ -72,10 +74,42 @@ pub fn add_say<'a>(
 ) -> Result<(), AllocError>
     ensures { OnOk result (parts pieces.new.items ≡ parts pieces.old.items ++ say_parts name text.entry.now) }
 {
-    add(pieces, &[Piece::Own("<pre class=\"say\">")])?;
+    add(pieces, &[Piece::Own("<span class=\"say\">")])?;
     add_above(pieces, name, text)?;
-    add(pieces, &[Piece::Own("</pre>\n")])?;
+    add(pieces, &[Piece::Own("</span>\n<b>")])?;
     Ok(())
+}
+
+/// Adds the first line of a text.
+fn add_first<'a>(pieces: &mut Vec<Piece<'a>>, text: &'a [u8]) -> Result<(), AllocError>
+    ensures { OnOk result (parts pieces.new.items
+        ≡ parts pieces.old.items ++ first_parts text.entry.now (lines_from text.entry.now 0)) }
+{
+    match next_line(text, 0) {
+        Some(line) => add(
+            pieces,
+            &[
+                Piece::Own("<span>"),
+                Piece::Foreign(part(text, line.start, line.end)),
+                Piece::Own("</span>"),
+            ],
+        ),
+        None => Ok(()),
+    }
+}
+
+/// Adds the first line of a dump.
+pub fn add_head<'a>(
+    pieces: &mut Vec<Piece<'a>>,
+    name: Name,
+    text: &'a [u8],
+) -> Result<(), AllocError>
+    ensures { OnOk result (parts pieces.new.items ≡ parts pieces.old.items ++ head_of name text.entry.now) }
+{
+    match name {
+        Name::Dump { .. } => add_first(pieces, text),
+        Name::Console | Name::Pmsg | Name::Ftrace => Ok(()),
+    }
 }
 
 /// The number of a dump's zone.
@@ -134,13 +168,57 @@ pub fn is_unfolded(number: Option<u32>, held: &RecordReport) -> bool
     }
 }
 
-/// Adds a fold, open or not, up to its name.
+/// The name of the record that tells why the machine died.
+pub fn teller_name(told: Option<Telling<'_>>) -> Option<Name>
+    ensures { result ≡ teller_name (told_in told.entry) }
+{
+    match told {
+        Some(told) => {
+            let teller: &RecordReport = told.teller;
+            Some(teller.name)
+        }
+        None => None,
+    }
+}
+
+fn is_same_record(teller: Name, name: Name) -> bool
+    ensures { result ≡ is_same_record teller name }
+{
+    match teller {
+        Name::Dump { index, .. } => is_numbered(index, name),
+        Name::Console => is_console(name),
+        Name::Pmsg | Name::Ftrace => false,
+    }
+}
+
+/// Whether a record is the one of this name, which tells why the machine died.
+pub fn is_teller(teller: Option<Name>, held: &RecordReport) -> bool
+    ensures { result ≡ is_teller teller held.now.name }
+{
+    match teller {
+        Some(teller) => is_same_record(teller, held.name),
+        None => false,
+    }
+}
+
+/// Adds a mark, if a record tells why the machine died.
+pub fn add_mark(pieces: &mut Vec<Piece<'_>>, tells: bool) -> Result<(), AllocError>
+    ensures { OnOk result (parts pieces.new.items ≡ parts pieces.old.items ++ mark_parts tells) }
+{
+    if tells {
+        add(pieces, &[Piece::Own("<mark>tells why it died</mark>")])
+    } else {
+        Ok(())
+    }
+}
+
+/// Adds a fold, open or not, up to its summary.
 pub fn add_fold(pieces: &mut Vec<Piece<'_>>, is_open: bool) -> Result<(), AllocError>
     ensures { OnOk result (parts pieces.new.items ≡ parts pieces.old.items ++ fold_parts is_open) }
 {
     if is_open {
-        add(pieces, &[Piece::Own("<details open>\n<summary><b>")])
+        add(pieces, &[Piece::Own("<details open>\n<summary>")])
     } else {
-        add(pieces, &[Piece::Own("<details>\n<summary><b>")])
+        add(pieces, &[Piece::Own("<details>\n<summary>")])
     }
 }

@@ -1,6 +1,8 @@
 // Logs, line by line, each in its level's colour.
-ghost use Rattle.std.specs.Prelude.{◌≡◌, ◌++◌, OnOk};
-ghost use Rattle.report_html.specs.Logs.{line_bytes, level_words, line_by, line_text as text_of_line, log_text};
+ghost use Rattle.std.specs.Prelude.{◌≡◌, ◌++◌, slice_index, OnOk};
+ghost use Rattle.death_spec.specs.Lines.{is_kernels};
+ghost use Rattle.report_html.specs.Logs.{line_bytes, level_words, level_shown, line_by, line_text as text_of_line};
+ghost use Rattle.report_html.specs.Logs.{log_text};
 
 use crate::escaping::push_escaped;
 use death::{level, next_line, part};
@@ -21,6 +23,35 @@ fn level_tag(level: u8) -> &'static str
     }
 }
 
+/// The byte at a place, or 0 past the end.
+fn byte_at(text: &[u8], at: usize) -> u8
+    ensures { result ≡ slice_index text.now at }
+{
+    if at < text.len() { text[at] } else { 0 }
+}
+
+/// Whether the kernel wrote a line, and not a program.
+fn is_kernels(text: &[u8], line: Line) -> bool
+    ensures { result ≡ is_kernels text.now line }
+{
+    if line.stamp < line.level {
+        return false;
+    }
+    let len = line.stamp - line.level;
+    len == 0 || (len == 3 && byte_at(text, line.level + 1) < b'8')
+}
+
+/// The level of a line that the kernel wrote.
+fn level_shown(text: &[u8], line: Line) -> Option<u8>
+    ensures { result ≡ level_shown text.now line }
+{
+    if is_kernels(text, line) {
+        level(text, line)
+    } else {
+        None
+    }
+}
+
 /// Appends a line in its level's colour.
 fn push_coloured(out: &mut Vec<u8>, level: u8, bytes: &[u8]) -> Result<(), AllocError>
     ensures { OnOk result (out.new.items ≡ out.old.items ++ line_by (Some level) bytes.now) }
@@ -37,7 +68,7 @@ fn push_line(out: &mut Vec<u8>, text: &[u8], line: Line) -> Result<(), AllocErro
     ensures { OnOk result (out.new.items ≡ out.old.items ++ text_of_line text.now line) }
 {
     let bytes = part(text, line.start, line.next);
-    match level(text, line) {
+    match level_shown(text, line) {
         Some(level) => push_coloured(out, level, bytes),
         None => push_escaped(out, bytes),
     }

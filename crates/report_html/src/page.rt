@@ -5,8 +5,8 @@ ghost use Rattle.region_report.specs.Tellers.{told_in};
 ghost use Rattle.zone_spec.specs.Parts.{AreBytes};
 ghost use Rattle.report_spec.specs.Packed.{readable};
 ghost use Rattle.report_html.specs.Pieces.{parts};
-ghost use Rattle.report_html.specs.Pages.{time_parts, length_parts, packing_parts, content_parts, record_parts};
-ghost use Rattle.report_html.specs.Pages.{records_after, list_parts, records_opening, heading_parts};
+ghost use Rattle.report_html.specs.Pages.{time_parts, length_parts, packing_parts, content_parts, summary_parts};
+ghost use Rattle.report_html.specs.Pages.{record_parts, records_after, list_parts, records_opening, heading_parts};
 ghost use Rattle.report_html.specs.Pages.{named_parts, page_with, page_of};
 ghost use Rattle.report_html.specs.Escaping.{HoldBytes, AllTellBytes, IsWithoutMarkup};
 
@@ -14,7 +14,9 @@ use crate::causes::add_causes;
 use crate::died::{add_died, add_why};
 use crate::ended::words;
 use crate::groups::{add_edge, are_grouped, group_in};
-use crate::listed::{add_fold, add_say, is_unfolded, unfolded};
+use crate::listed::{
+    add_fold, add_head, add_mark, add_say, is_teller, is_unfolded, teller_name, unfolded,
+};
 use crate::parameters::add_parameters;
 use crate::picture::add_picture;
 use crate::pieces::{Piece, add, render};
@@ -85,26 +87,72 @@ fn add_time(pieces: &mut Vec<Piece<'_>>, time: Option<Time>) -> Result<(), Alloc
     }
 }
 
-/// Adds the lines of a record, with its name as their anchor.
+/// Adds the lines of a record, with its name as their anchor, or where they stand.
+fn add_lines<'a>(
+    pieces: &mut Vec<Piece<'a>>,
+    tells: bool,
+    name: Name,
+    content: &'a [u8],
+) -> Result<(), AllocError>
+    ensures { OnOk result
+        (parts pieces.new.items ≡ parts pieces.old.items ++ content_parts tells name content.entry.now) }
+{
+    if tells {
+        add(
+            pieces,
+            &[
+                Piece::Own("</summary>\n<p class=\"note\">Its lines stand above: "),
+                Piece::Link(name),
+                Piece::Own("</p>\n</details>\n"),
+            ],
+        )
+    } else {
+        add(
+            pieces,
+            &[
+                Piece::Own("</summary>\n<pre class=\"log\" id=\""),
+                Piece::Named(name),
+                Piece::Own("\">\n"),
+                Piece::Log(content),
+                Piece::Own("</pre>\n</details>\n"),
+            ],
+        )
+    }
+}
+
 fn add_content<'a>(
     pieces: &mut Vec<Piece<'a>>,
+    tells: bool,
     name: Name,
     content: &'a [u8],
 ) -> Result<(), AllocError>
     ensures bytes { AreBytes content.entry.now }
     ensures parts { OnOk result
-        (parts pieces.new.items ≡ parts pieces.old.items ++ content_parts name content.entry.now) }
+        (parts pieces.new.items ≡ parts pieces.old.items ++ content_parts tells name content.entry.now) }
 {
-    add(
-        pieces,
-        &[
-            Piece::Own("</summary>\n<pre class=\"log\" id=\""),
-            Piece::Named(name),
-            Piece::Own("\">\n"),
-            Piece::Log(content),
-            Piece::Own("</pre>\n</details>\n"),
-        ],
-    )
+    add_lines(pieces, tells, name, content)
+}
+
+/// Adds the summary of a record.
+fn add_summary<'a>(
+    pieces: &mut Vec<Piece<'a>>,
+    logs: &Logs,
+    tells: bool,
+    held: &'a RecordReport,
+) -> Result<(), AllocError>
+    ensures { OnOk result (parts pieces.new.items
+        ≡ parts pieces.old.items ++ summary_parts (saved logs.now) tells held.entry.now) }
+{
+    let text = held.readable();
+    add_say(pieces, held.name, text)?;
+    add(pieces, &[Piece::Named(held.name), Piece::Own("</b>")])?;
+    add_head(pieces, held.name, text)?;
+    add_mark(pieces, tells)?;
+    add_time(pieces, held.time)?;
+    add_length(pieces, held.content.len() as u64)?;
+    add_packing(pieces, &held.packing)?;
+    add_read(pieces, logs, held.name)?;
+    Ok(())
 }
 
 /// Adds a record, folded or not.
@@ -112,41 +160,39 @@ fn add_record<'a>(
     pieces: &mut Vec<Piece<'a>>,
     logs: &Logs,
     is_open: bool,
+    tells: bool,
     held: &'a RecordReport,
 ) -> Result<(), AllocError>
     ensures bytes { OnOk result (AreBytes (readable held.entry.now)) }
-    ensures parts { OnOk result
-        (parts pieces.new.items ≡ parts pieces.old.items ++ record_parts (saved logs.now) is_open held.entry.now) }
+    ensures parts { OnOk result (parts pieces.new.items
+        ≡ parts pieces.old.items ++ record_parts (saved logs.now) is_open tells held.entry.now) }
 {
     let text = held.readable();
-    add_say(pieces, held.name, text)?;
     add_fold(pieces, is_open)?;
-    add(pieces, &[Piece::Named(held.name), Piece::Own("</b>")])?;
-    add_time(pieces, held.time)?;
-    add_length(pieces, held.content.len() as u64)?;
-    add_packing(pieces, &held.packing)?;
-    add_read(pieces, logs, held.name)?;
-    add_content(pieces, held.name, text)?;
+    add_summary(pieces, logs, tells, held)?;
+    add_content(pieces, tells, held.name, text)?;
     Ok(())
 }
 
-/// Adds the records, in groups or not. That of the dump of this number is unfolded.
+/// Adds the records, in groups or not. That of the dump of this number is unfolded, and that of this name tells.
 fn add_each<'a>(
     pieces: &mut Vec<Piece<'a>>,
     logs: &Logs,
     grouped: bool,
     number: Option<u32>,
+    teller: Option<Name>,
     records: &'a [RecordReport],
 ) -> Result<(), AllocError>
     ensures bytes { OnOk result (HoldBytes records.entry.now) }
     ensures parts { OnOk result (parts pieces.new.items
-        ≡ parts pieces.old.items ++ records_after (saved logs.now) grouped number None records.entry.now) }
+        ≡ parts pieces.old.items ++ records_after (saved logs.now) grouped number teller None records.entry.now) }
 {
     let mut before = None;
     for held in records {
         let group = group_in(grouped, held);
         add_edge(pieces, number, before, group)?;
-        add_record(pieces, logs, is_unfolded(number, held), held)?;
+        let (is_open, tells) = (is_unfolded(number, held), is_teller(teller, held));
+        add_record(pieces, logs, is_open, tells, held)?;
         before = group;
     }
     add_edge(pieces, number, before, None)?;
@@ -166,7 +212,15 @@ fn add_list<'a>(
 {
     let records = report.records();
     let number = unfolded(newest_dump(records), told);
-    add_each(pieces, report.logs(), are_grouped(zones), number, records)
+    let teller = teller_name(told);
+    add_each(
+        pieces,
+        report.logs(),
+        are_grouped(zones),
+        number,
+        teller,
+        records,
+    )
 }
 
 /// Adds how many records there are.
@@ -246,7 +300,13 @@ fn all_pieces<'a>(
     add_heading(&mut pieces, title, signature, report.records(), told)?;
     add_why(&mut pieces, report.records(), told)?;
     add_warnings(alloc, &mut pieces, report, told)?;
-    add_died(&mut pieces, signature, report.records(), told)?;
+    add_died(
+        &mut pieces,
+        signature,
+        report.logs(),
+        report.records(),
+        told,
+    )?;
     add_records_opening(&mut pieces, report.records().len() as u64)?;
     add_causes(alloc, &mut pieces, report.records())?;
     add_list(&mut pieces, zones, report, told)?;

@@ -1,8 +1,10 @@
 // The picture of an image: its zones to scale, and a table of them with their blocks.
-ghost use Rattle.std.specs.Prelude.{◌≡◌, ◌++◌, flat_map, Some, OnOk};
+ghost use Rattle.std.specs.Prelude.{◌≡◌, ◌≤◌, ◌++◌, flat_map, Some, OnOk};
 ghost use Rattle.std.specs.Option.{option_copied};
 ghost use Rattle.report_html.specs.Pieces.{parts};
-ghost use Rattle.report_html.specs.Pictures.{class_words, part_words, opening, closing, header_parts, blocks_word};
+ghost use Rattle.report_html.specs.Pictures.{class_words, rows_above as rows_above_of, part_words, opening, closing};
+ghost use Rattle.report_html.specs.Pictures.{header_parts, blocks_word, strip_opening, outline_parts, parity_parts};
+ghost use Rattle.report_html.specs.Pictures.{strip_parts, frame_parts, map_parts};
 ghost use Rattle.report_html.specs.Pictures.{range_parts, count_parts, corrected_parts, blocks_opening, blocks_parts};
 ghost use Rattle.report_html.specs.Pictures.{runs, run_parts, unused_parts, reading_cells, unread_cells, read_cells};
 ghost use Rattle.report_html.specs.Pictures.{row_parts, zone_parts, drawn_parts, end_of, width_of, region_opening};
@@ -11,23 +13,36 @@ ghost use Rattle.report_html.specs.Regions.{picture};
 
 use crate::block_runs::{add_numbers, block_at, run_end};
 use crate::pieces::{Piece, add};
-use crate::region::{add_map_zone, add_zone_name, read_text};
+use crate::region::{add_label, add_place, add_zone_name, read_text};
 use crate::spots::{add_spots, spots_of};
-use crate::words::{CELL, KEY, MAP, STRIP, ZONES};
+use crate::words::{CELL, FRAME, KEY, MAP, STRIP, ZONES};
 use prz_read::Reading;
 use region_report::{PartState, Report, ZoneParts};
 use std::alloc::{AllocError, Global};
 use zone_spec::Zone;
 
-/// The class of parts by how they read, and their rows.
+/// The class of parts by how they read.
 fn class_text(state: Option<PartState>) -> &'static str
     ensures { result.now ≡ class_words state }
 {
     match state {
-        None => "off\" y=\"20\" height=\"4\" x=\"",
-        Some(PartState::Read(0)) => "ok\" y=\"12\" height=\"12\" x=\"",
-        Some(PartState::Read(_)) => "fix\" y=\"6\" height=\"18\" x=\"",
-        Some(PartState::Bad) => "bad\" y=\"0\" height=\"24\" x=\"",
+        None => "off",
+        Some(PartState::Read(0)) => "ok",
+        Some(PartState::Read(_)) => "fix",
+        Some(PartState::Bad) => "bad",
+    }
+}
+
+/// The rows that stay free above parts, of 24.
+fn rows_above(state: Option<PartState>) -> u64
+    ensures rows { result ≡ rows_above_of state }
+    ensures few { result ≤ 24 }
+{
+    match state {
+        None => 20,
+        Some(PartState::Read(0)) => 12,
+        Some(PartState::Read(n)) => 10 - u64::from(n.min(9)),
+        Some(PartState::Bad) => 0,
     }
 }
 
@@ -42,26 +57,34 @@ fn part_text(state: Option<PartState>) -> &'static str
     }
 }
 
-/// Begins a rectangle: its class, the byte of the zone it begins at and its width in bytes.
+/// Begins a rectangle: its class, its rows, the byte of the zone it begins at and its width in bytes.
 fn add_opening(
     pieces: &mut Vec<Piece<'_>>,
-    class: &'static str,
+    state: Option<PartState>,
     at: u64,
     width: u64,
 ) -> Result<(), AllocError>
-    ensures { OnOk result (parts pieces.new.items ≡ parts pieces.old.items ++ opening class.entry.now at width) }
+    ensures { OnOk result (parts pieces.new.items ≡ parts pieces.old.items ++ opening state at width) }
 {
+    let class = class_text(state);
+    let above = rows_above(state);
     add(
         pieces,
         &[
             Piece::Own("<rect class=\""),
             Piece::Own(class),
+            Piece::Own("\" y=\""),
+            Piece::Number(above),
+            Piece::Own("\" height=\""),
+            Piece::Number(24 - above),
+            Piece::Own("\" x=\""),
             Piece::Number(at),
             Piece::Own("\" width=\""),
             Piece::Number(width),
             Piece::Own("\"><title>"),
         ],
-    )
+    )?;
+    Ok(())
 }
 
 fn add_closing(pieces: &mut Vec<Piece<'_>>) -> Result<(), AllocError>
@@ -124,7 +147,7 @@ fn add_header(pieces: &mut Vec<Piece<'_>>, state: Option<PartState>) -> Result<(
     ensures { OnOk result (parts pieces.new.items ≡ parts pieces.old.items ++ header_parts state) }
 {
     let words = part_text(state);
-    add_opening(pieces, class_text(state), 0, 12)?;
+    add_opening(pieces, state, 0, 12)?;
     add(pieces, &[Piece::Own("header, "), Piece::Own(words)])?;
     add_corrected(pieces, state)?;
     add_closing(pieces)?;
@@ -137,13 +160,13 @@ fn add_blocks_opening(
     zone: &Zone,
     from: u64,
     to: u64,
-    class: &'static str,
+    state: Option<PartState>,
 ) -> Result<(), AllocError>
     ensures { OnOk result (parts pieces.new.items
-        ≡ parts pieces.old.items ++ blocks_opening zone.now from to class.entry.now) }
+        ≡ parts pieces.old.items ++ blocks_opening zone.now from to state) }
 {
     let (start, end) = (block_at(zone, from), block_at(zone, to));
-    add_opening(pieces, class, start + 12, end.saturating_sub(start))?;
+    add_opening(pieces, state, start + 12, end.saturating_sub(start))?;
     Ok(())
 }
 
@@ -157,7 +180,7 @@ fn add_blocks(
 ) -> Result<(), AllocError>
     ensures { OnOk result (parts pieces.new.items ≡ parts pieces.old.items ++ blocks_parts zone.now from to state) }
 {
-    add_blocks_opening(pieces, zone, from, to, class_text(state))?;
+    add_blocks_opening(pieces, zone, from, to, state)?;
     add_range(pieces, from, to, part_text(state))?;
     add_corrected(pieces, state)?;
     add_closing(pieces)?;
@@ -192,6 +215,94 @@ fn add_unused(pieces: &mut Vec<Piece<'_>>, zone: &Zone, used: u64) -> Result<(),
     } else {
         Ok(())
     }
+}
+
+/// Begins the strip of a zone of so many bytes.
+fn add_strip_opening(pieces: &mut Vec<Piece<'_>>, size: u64) -> Result<(), AllocError>
+    ensures { OnOk result (parts pieces.new.items ≡ parts pieces.old.items ++ strip_opening size) }
+{
+    add(
+        pieces,
+        &[
+            Piece::Own("0 0 "),
+            Piece::Number(size),
+            Piece::Own(" 24\" preserveAspectRatio=\"none\">\n"),
+        ],
+    )
+}
+
+fn add_outline(pieces: &mut Vec<Piece<'_>>, at: u64, width: u64) -> Result<(), AllocError>
+    ensures { OnOk result (parts pieces.new.items ≡ parts pieces.old.items ++ outline_parts at width) }
+{
+    add(
+        pieces,
+        &[
+            Piece::Own("<rect class=\"par\" y=\"12\" height=\"12\" x=\""),
+            Piece::Number(at),
+            Piece::Own("\" width=\""),
+            Piece::Number(width),
+            Piece::Own("\"><title>parity</title></rect>\n"),
+        ],
+    )
+}
+
+/// Adds the outline of the parity, if there is any.
+fn add_parity(pieces: &mut Vec<Piece<'_>>, zone: &Zone) -> Result<(), AllocError>
+    ensures { OnOk result (parts pieces.new.items ≡ parts pieces.old.items ++ parity_parts zone.now) }
+{
+    let (end, size) = (12 + u64::from(zone.cap), u64::from(zone.size));
+    if end < size {
+        add_outline(pieces, end, size - end)
+    } else {
+        Ok(())
+    }
+}
+
+/// Adds the bytes of a zone: its header, its blocks and its parity.
+fn add_strip(pieces: &mut Vec<Piece<'_>>, zone: &Zone, states: &ZoneParts) -> Result<(), AllocError>
+    ensures { OnOk result (parts pieces.new.items ≡ parts pieces.old.items ++ strip_parts zone.now states.now) }
+{
+    let blocks = states.blocks.as_slice();
+    add_strip_opening(pieces, u64::from(zone.size))?;
+    add_header(pieces, Some(states.header))?;
+    add_used(pieces, zone, blocks)?;
+    add_unused(pieces, zone, blocks.len() as u64)?;
+    add_parity(pieces, zone)?;
+    add(pieces, &[Piece::Own("</svg>")])?;
+    Ok(())
+}
+
+/// Adds how a zone reads, and its frame.
+fn add_frame(pieces: &mut Vec<Piece<'_>>, reading: Option<&Reading>) -> Result<(), AllocError>
+    ensures { OnOk result (parts pieces.new.items
+        ≡ parts pieces.old.items ++ frame_parts (option_copied reading.entry)) }
+{
+    let read = read_text(reading);
+    add(
+        pieces,
+        &[Piece::Own(": "), Piece::Own(read), Piece::Own(FRAME)],
+    )?;
+    Ok(())
+}
+
+/// Adds a zone to the map of a region of so many bytes.
+fn add_map_zone(
+    pieces: &mut Vec<Piece<'_>>,
+    whole: u64,
+    zone: &Zone,
+    reading: Option<&Reading>,
+    states: &ZoneParts,
+) -> Result<(), AllocError>
+    ensures { OnOk result (parts pieces.new.items
+        ≡ parts pieces.old.items ++ map_parts whole ((zone.now, option_copied reading.entry), states.now)) }
+{
+    add_place(pieces, zone, whole)?;
+    add_zone_name(pieces, zone)?;
+    add_frame(pieces, reading)?;
+    add_strip(pieces, zone, states)?;
+    add_label(pieces, zone, whole)?;
+    add(pieces, &[Piece::Own("</svg>\n")])?;
+    Ok(())
 }
 
 /// Adds the words of a header as it reads, corrected bytes and bad parts.
@@ -235,7 +346,7 @@ fn add_read_cells(pieces: &mut Vec<Piece<'_>>, reading: Option<&Reading>) -> Res
     }
 }
 
-/// Adds a zone's row, and room for its strip.
+/// Adds a zone's row, and where its strip begins.
 fn add_row(
     pieces: &mut Vec<Piece<'_>>,
     zone: &Zone,
@@ -260,18 +371,11 @@ fn add_row(
         ],
     )?;
     add_read_cells(pieces, reading)?;
-    add(
-        pieces,
-        &[
-            Piece::Own(STRIP),
-            Piece::Number(size),
-            Piece::Own(" 24\" preserveAspectRatio=\"none\">\n"),
-        ],
-    )?;
+    add(pieces, &[Piece::Own(STRIP)])?;
     Ok(())
 }
 
-/// Adds a zone to the table: its row, its header, and its blocks.
+/// Adds a zone to the table: its row, and its strip.
 fn add_zone(
     pieces: &mut Vec<Piece<'_>>,
     zone: &Zone,
@@ -281,12 +385,9 @@ fn add_zone(
     ensures { OnOk result (parts pieces.new.items
         ≡ parts pieces.old.items ++ zone_parts ((zone.now, option_copied reading.entry), states.now)) }
 {
-    let blocks = states.blocks.as_slice();
     add_row(pieces, zone, reading)?;
-    add_header(pieces, Some(states.header))?;
-    add_used(pieces, zone, blocks)?;
-    add_unused(pieces, zone, blocks.len() as u64)?;
-    add(pieces, &[Piece::Own("</svg></td></tr>\n")])?;
+    add_strip(pieces, zone, states)?;
+    add(pieces, &[Piece::Own("</td></tr>\n")])?;
     Ok(())
 }
 
@@ -305,7 +406,7 @@ fn add_drawn(
     if in_table {
         add_zone(pieces, zone, reading, states)
     } else {
-        add_map_zone(pieces, whole, zone, reading)
+        add_map_zone(pieces, whole, zone, reading, states)
     }
 }
 

@@ -28,6 +28,7 @@ caption{padding:.25rem 0;text-align:left;color:var(--dim)}\n\
 th,td{padding:.1875rem .625rem .1875rem 0;text-align:left;vertical-align:top;font-weight:400}\n\
 th{color:var(--dim);white-space:nowrap}\n\
 .fact td{white-space:pre-line;overflow-wrap:anywhere}\n\
+.fact span{margin-right:.375rem}\n\
 .grid th,.grid td{border-top:1px solid var(--line)}\n\
 .grid td{white-space:pre}\n\
 .grid .n{text-align:right}\n\
@@ -40,23 +41,26 @@ details>.scroll{margin-bottom:1rem}\n\
 .fix{color:var(--fix);fill:var(--fix);border-style:dashed}\n\
 .bad{color:var(--bg);background:var(--bad);border-color:var(--bad);fill:var(--bad)}\n\
 .off{color:var(--dim);fill:var(--off);border-style:dotted}\n\
+.par{fill:none;stroke:var(--off)}\n\
 .map,.strip{display:block;width:100%}\n\
 .map{height:52px}\n\
 .zone{fill:var(--code);stroke:var(--off);stroke-width:.5}\n\
 text{fill:var(--fg);font:.75rem system-ui,sans-serif}\n\
 .strip{height:1.5rem}\n\
-.strip rect{vector-effect:non-scaling-stroke}\n\
+.strip rect,.key rect{vector-effect:non-scaling-stroke}\n\
 .strip .fix,.strip .bad{stroke:var(--fix);stroke-width:1px}\n\
 .strip .bad{stroke:var(--bad)}\n\
 .legend{margin:.5rem 0;padding:0;list-style:none;display:flex;flex-wrap:wrap;gap:.125rem 1rem}\n\
 .key{display:inline-block;width:1rem;height:1.25rem;margin-right:.25rem;vertical-align:-.3rem}\n\
-.say{margin:.75rem 0 0;font-weight:700;white-space:pre-wrap;overflow-wrap:anywhere}\n\
-.say span{font-weight:400;color:var(--dim)}\n\
 summary{padding:.25rem 0;cursor:pointer}\n\
-summary span{display:inline-block;margin-left:.75rem}\n\
+summary span,summary mark{display:inline-block;margin-left:.75rem}\n\
+summary mark{padding:0 .375rem;background:var(--mark);color:inherit;font-weight:700}\n\
+summary .say{display:block;margin:.5rem 0 0;font:700 .8125rem ui-monospace,\"DejaVu Sans Mono\",Menlo,Consolas,monospace;\n\
+white-space:pre-wrap;overflow-wrap:anywhere}\n\
+summary .say span{display:inline;margin:0;font-weight:400;color:var(--dim)}\n\
 .group{border-top:1px solid var(--line)}\n\
 .group>summary{padding:.5rem 0}\n\
-.group>.say,.group>details{margin-left:1rem}\n\
+.group>details{margin-left:1rem}\n\
 .log{margin:.25rem 0;padding:.375rem .5rem .375rem .8125rem;background:var(--code);line-height:1.4;\n\
 white-space:pre-wrap;overflow-wrap:anywhere;tab-size:8}\n\
 .log i,.log mark{display:block;margin:0 -.5rem 0 -.8125rem}\n\
@@ -76,11 +80,10 @@ footer{margin-top:2rem;border-top:1px solid var(--line);color:var(--dim)}\n\
 .grid .wrap{min-width:0}}\n\
 @media(max-width:34rem){.slim{display:none}text{font-size:.625rem}.grid th{font-size:.625rem}\n\
 .fact tr,.fact th,.fact td{display:block}.fact th{padding:.375rem 0 0}.fact td{padding-top:0}\n\
-.grid th,.grid td{padding-right:.25rem}.grid td{font-size:.6875rem}.say{font-size:.75rem}\n\
-.log{font-size:.6875rem}summary span{margin-left:.375rem}.group>.say,.group>details{margin-left:0}}\n\
+.grid th,.grid td{padding-right:.25rem}.grid td{font-size:.6875rem}summary .say{font-size:.75rem}\n\
+.log{font-size:.6875rem}summary span{margin-left:.375rem}.group>details{margin-left:0}}\n\
 @media print{@page{size:A4;margin:14mm}*{print-color-adjust:exact;-webkit-print-color-adjust:exact}\n\
 :root{color-scheme:light}body{max-width:none;padding:0;font-size:9pt}pre,td{font-size:7.5pt}.why{font-size:13pt}\n\
-nav{display:none}summary{list-style:none;break-after:avoid}.say,h2{break-after:avoid}\n\
+nav{display:none}summary{list-style:none;break-after:avoid}h2{break-after:avoid}\n\
 tr,.log i,.log mark{break-inside:avoid}\n\
-.scroll{overflow:visible}.grid td{white-space:pre-wrap}\n\
-details::details-content{content-visibility:visible;block-size:auto}}\n";
+.scroll{overflow:visible}.grid td{white-space:pre-wrap}}\n";

@@ -17,8 +17,8 @@ pub const LEVELS: &str = "</h2>\n<ul class=\"legend log\">\n\
 <li><i class=\"l2\">&lt;2&gt; critical</i></li>\n<li><i class=\"l3\">&lt;3&gt; error</i></li>\n\
 <li><i class=\"l4\">&lt;4&gt; warning</i></li>\n<li><i class=\"l5\">&lt;5&gt; notice</i></li>\n\
 <li>&lt;6&gt; info</li>\n<li><i class=\"l7\">&lt;7&gt; debug</i></li>\n</ul>\n\
-<p class=\"note\">The number before a line is its level. One of 8 or more comes from user space: its level is the \
-number modulo 8. The console keeps no levels.</p>\n";
+<p class=\"note\">The number before a line is its level. A line with a number of 8 or more comes from user space, and \
+has no bar. The console keeps no levels.</p>\n";
 
 pub const END: &str =
     "</main>\n<footer>\n<p>Times are UTC. Text of the region is printable ASCII, tabs and newlines; \
@@ -28,6 +28,9 @@ every other byte, and the backslash, is shown as <span class=\"mono\">\\x</span>
 pub const NO_CPU: &str = "<tr><th scope=\"row\">CPU</th><td>not recorded</td></tr>\n";
 
 pub const NO_FUNCTION: &str = "<tr><th scope=\"row\">Function</th><td>not recorded</td></tr>\n";
+
+/// Between the record that tells and how it read.
+pub const READ: &str = "</td></tr>\n<tr><th scope=\"row\">Read</th><td>";
 
 /// Between the table of what is known and the lines that tell it.
 pub const TOLD: &str =
@@ -52,13 +55,14 @@ aria-label=\"The region to scale; the table below has its numbers\">\n";
 
 /// The key of the map.
 pub const KEY: &str = "</svg>\n<ul class=\"legend\">\n\
-<li><svg class=\"key\"><rect class=\"ok\" y=\"10\" width=\"16\" height=\"10\"/></svg>clean</li>\n\
-<li><svg class=\"key\"><rect class=\"fix\" y=\"5\" width=\"16\" height=\"15\"/></svg>corrected</li>\n\
-<li><svg class=\"key\"><rect class=\"bad\" width=\"16\" height=\"20\"/></svg>\
+<li><svg class=\"key\"><rect class=\"ok\" y=\"12\" width=\"16\" height=\"12\"/></svg>clean</li>\n\
+<li><svg class=\"key\"><rect class=\"fix\" y=\"9\" width=\"8\" height=\"15\"/>\
+<rect class=\"fix\" x=\"8\" y=\"2\" width=\"8\" height=\"22\"/></svg>corrected, higher for more bytes</li>\n\
+<li><svg class=\"key\"><rect class=\"bad\" width=\"16\" height=\"24\"/></svg>\
 bad: more damage than parity repairs</li>\n\
-<li><svg class=\"key\"><rect class=\"off\" y=\"16\" width=\"16\" height=\"4\"/></svg>not in use</li>\n\
-</ul>\n<p class=\"note\">To scale. A zone has the colour of its worst part. \
-In the table each zone has its header and blocks below it.</p>\n";
+<li><svg class=\"key\"><rect class=\"off\" y=\"20\" width=\"16\" height=\"4\"/></svg>not in use</li>\n\
+<li><svg class=\"key\"><rect class=\"par\" y=\"12\" width=\"16\" height=\"12\"/></svg>parity</li>\n\
+</ul>\n<p class=\"note\">To scale. Each zone has its header, its blocks and its parity.</p>\n";
 
 /// The head of the table of zones.
 pub const ZONES: &str = "<div class=\"scroll\" tabindex=\"0\" role=\"region\" aria-label=\"Zones\">\
@@ -73,10 +77,11 @@ pub const CELL: &str = "</td><td class=\"n\">";
 
 /// Between the row of a zone and its strip.
 pub const STRIP: &str =
-    "</td></tr>\n<tr><td class=\"pic\" colspan=\"8\"><svg class=\"strip\" viewBox=\"0 0 ";
+    "</td></tr>\n<tr><td class=\"pic\" colspan=\"8\"><svg class=\"strip\" viewBox=\"";
 
-/// The frame of a zone, and its bar.
-pub const FRAME: &str = "</title><rect class=\"zone\" width=\"100%\" height=\"52\"/><rect class=\"";
+/// The frame of a zone, and where its strip begins.
+pub const FRAME: &str = "</title><rect class=\"zone\" width=\"100%\" height=\"52\"/>\
+<svg class=\"strip\" y=\"28\" viewBox=\"";
 
 /// The head of the table of headers and blocks that are not clean.
 pub const SPOTS: &str = "</b></summary>\n<div class=\"scroll\" tabindex=\"0\" role=\"region\" \

@@ -1,12 +1,11 @@
--- An image that may be a storage: what a look at it tells, and how its report ends. For `storage_of`, `report_storage`
--- and `unlogged_report`.
-use Rattle.std.proofs.Common.{◌≡◌, ◌≤◌, ◌∙◌, ℕ, Bool, true, false, List, Option, Some, None, refl, sym, subst, inl, inr}
+-- An image that may be a storage: how its report ends. For `report_storage` and `unlogged_report`.
+use Rattle.std.proofs.Common.{◌≡◌, ◌≤◌, ℕ, List, Option, Some, None, refl, subst, inl, inr}
 use Rattle.std.specs.Prelude.{Result, Ok, Err, MatchResult}
 use Rattle.command_spec.specs.declared.Stop.{Stop}
 use Rattle.layout_spec.specs.declared.Known.{Known}
 use Rattle.region_report.specs.Reports.{ReportHeld}
 use Rattle.storage_report.specs.declared.storage.HeldStorage.{HeldStorage}
-use Rattle.storage_report.specs.Held.{IsHeld}
+use Rattle.storage_report.specs.Held.{IsLookedAt}
 use Rattle.storage_report.specs.Given.{IsReported, IsUnreported}
 use Rattle.report_run.specs.declared.plans.Asked.{Asked}
 use Rattle.report_run.specs.declared.failures.Failure.{Failure}
@@ -15,25 +14,9 @@ use Rattle.report_run.specs.Failures.{stop_failure}
 use Rattle.report_run.specs.Messages.{Seen}
 use Rattle.report_run.specs.Plans.{map_of}
 use Rattle.report_run.specs.Images.{TellsLayout, IsNotTold, IsSoughtReport, IsNoSoughtReport}
-use Rattle.report_run.specs.Logs.{IsUnlooked}
-use Rattle.report_run.specs.Storages.{names_of, lines_on, IsNoStorage, IsLookedAt, IsStorageShown, IsStorageUnshown}
+use Rattle.report_run.specs.Storages.{names_of, lines_on, IsUnfound, IsStorageShown, IsStorageUnshown}
 use Rattle.report_run.specs.Storages.{IsUnloggedReport, IsNoUnloggedReport}
 use Rattle.report_run.proofs.ReportEnds.{settled}
-
--- ---- the look
-
-pub not_asked : (holds : Option (List ℕ)) (takes : Bool) → takes ≡ false → IsNoStorage takes holds
-not_asked None takes off = tt
-not_asked (Some image) takes off = λ e. (let n : ◌≡◌ {A = Bool} false true = sym off ∙ e in absurd (cc))
-
-no_storage : (takes : Bool) (holds : Option (List ℕ)) → IsHeld holds None → IsNoStorage takes holds
-no_storage takes None h = tt
-no_storage takes (Some image) h = λ e. h
-
-pub looked_at : (takes : Bool) (holds : Option (List ℕ)) (held : Option HeldStorage) → takes ≡ true
-    → IsHeld holds held → IsLookedAt takes holds held
-looked_at takes holds None on h = no_storage takes holds h
-looked_at takes holds (Some s) on h = (on, h)
 
 -- ---- the report behind the lines
 
@@ -90,7 +73,7 @@ unbegun asked path h given put0 put1 a why e = inl (record { why_is = e; unput =
 
 module _ (asked : Asked) (known : Known) (path : List ℕ) (holds given now : Option (List ℕ)) (read0 read2 put0 put1 : ℕ)
   where
-    pub unread : (a : Seen) (why : Failure) → IsUnlooked read0 read2 why
+    pub unread : (a : Seen) (why : Failure) → IsUnfound asked.storages holds read0 read2 why
         → IsNoUnloggedReport asked known path holds read0 read2 given given put0 put1 a a why
     unread a why h = inl (record { cause = h; unput = refl; silent = refl })
 
@@ -104,7 +87,7 @@ module _ (asked : Asked) (known : Known) (path : List ℕ) (holds given now : Op
     by_storage storage a b (Err why) is h = inr (inl (record { storage = storage; held = is; cause = h }))
 
     pub by_layout : (same : Option (List ℕ)) (read1 : ℕ) (a b : Seen) (r : Result ReportHeld Failure)
-        → IsNoStorage asked.storages holds → same ≡ holds → read0 ≤ read1
+        → IsLookedAt asked.storages holds None → same ≡ holds → read0 ≤ read1
         → MatchResult r (IsSoughtReport asked known path same given now a b)
         (IsNoSoughtReport asked known path same read1 read2 given now put0 put1 a b)
         → MatchResult r (IsUnloggedReport asked known path holds given now a b)

@@ -1,19 +1,19 @@
 -- An image that is a storage of the kernel's pstore_zone, or one whose layout is looked for
-use Rattle.std.specs.Prelude.{◌≡◌, ◌⊎◌, ◌≤◌, ℕ, Bool, true, List, [], Option, Some, None, IfSome}
+use Rattle.std.specs.Prelude.{◌≡◌, ◌⊎◌, ◌≤◌, ℕ, List, [], Option, Some, None}
 use Rattle.command_spec.specs.declared.Stop.{Stop}
-use Rattle.storage_spec.specs.Found.{front_of, storage_in}
+use Rattle.storage_words.specs.declared.Storages.{Storages}
 use Rattle.storage_spec.specs.Told.{storage_lines}
 use Rattle.storage_report.specs.declared.storage.HeldStorage.{HeldStorage}
-use Rattle.storage_report.specs.Held.{IsHeld}
+use Rattle.storage_report.specs.declared.storage.NoStorage.{NoStorage}
+use Rattle.storage_report.specs.Held.{IsLookedAt, IsNotLookedAt}
 use Rattle.storage_report.specs.Given.{IsReported, IsUnreported}
 use Rattle.layout_spec.specs.declared.Known.{Known}
 use Rattle.region_report.specs.Reports.{ReportHeld}
 use Rattle.report_run.specs.declared.plans.Asked.{Asked}
 use Rattle.report_run.specs.declared.failures.Failure.{Failure}
 use Rattle.report_run.specs.declared.failures.Failure.TheVariants.{Memory}
-use Rattle.report_run.specs.Failures.{stop_failure}
+use Rattle.report_run.specs.Failures.{stop_failure, no_storage_failure}
 use Rattle.report_run.specs.Images.{TellsLayout, IsNotTold, IsSoughtReport, IsNoSoughtReport}
-use Rattle.report_run.specs.Logs.{IsUnlooked}
 use Rattle.report_run.specs.Messages.{Seen}
 use Rattle.report_run.specs.Plans.{map_of}
 
@@ -21,13 +21,11 @@ abbrev pub names_of : Option (List ℕ) → List ℕ
 names_of None = []
 names_of (Some map) = map
 
--- a storage is not looked for, or the image shows none
-abbrev pub IsNoStorage : Bool → Option (List ℕ) → Type 0
-IsNoStorage takes holds = IfSome holds (λ image. takes ≡ true → storage_in (front_of image) ≡ None)
-
-abbrev pub IsLookedAt : Bool → Option (List ℕ) → Option HeldStorage → Type 0
-IsLookedAt takes holds None = IsNoStorage takes holds
-IsLookedAt takes holds (Some h) = (takes ≡ true) × IsHeld holds (Some h)
+-- it was not looked at, or no kernel divides it by the sizes that words give
+pub record IsUnfound (storages : Storages) (holds : Option (List ℕ)) (before now : ℕ) (why : Failure) : Type 0 where
+  pub none : NoStorage
+  pub cause : IsNotLookedAt storages holds before now none
+  pub is : why ≡ no_storage_failure none
 
 -- ---- the lines on a storage, and its report behind them
 
@@ -76,7 +74,7 @@ pub record IsAsStorage (asked : Asked) (path : List ℕ) (holds given now : Opti
 -- or a layout was looked for
 pub record IsAsLaid (asked : Asked) (known : Known) (path : List ℕ) (holds given now : Option (List ℕ)) (a b : Seen)
     (report : ReportHeld) : Type 0 where
-  pub no_storage : IsNoStorage asked.storages holds
+  pub no_storage : IsLookedAt asked.storages holds None
   pub reported : IsSoughtReport asked known path holds given now a b report
 
 abbrev pub IsUnloggedReport : Asked → Known → List ℕ → Option (List ℕ) → Option (List ℕ) → Option (List ℕ)
@@ -84,10 +82,10 @@ abbrev pub IsUnloggedReport : Asked → Known → List ℕ → Option (List ℕ)
 IsUnloggedReport asked known path holds given now a b report =
     IsAsStorage asked path holds given now a b report ⊎ IsAsLaid asked known path holds given now a b report
 
--- it could not be read: nothing was given out
-pub record IsUnseenStorage (read_before read_now : ℕ) (given now : Option (List ℕ)) (a b : Seen) (why : Failure)
-    : Type 0 where
-  pub cause : IsUnlooked read_before read_now why
+-- none was found: nothing was given out
+pub record IsUnseenStorage (storages : Storages) (holds : Option (List ℕ)) (read_before read_now : ℕ)
+    (given now : Option (List ℕ)) (a b : Seen) (why : Failure) : Type 0 where
+  pub cause : IsUnfound storages holds read_before read_now why
   pub unput : now ≡ given
   pub silent : b ≡ a
 
@@ -100,7 +98,7 @@ pub record IsNotAsStorage (asked : Asked) (path : List ℕ) (holds given now : O
 pub record IsNotAsLaid (asked : Asked) (known : Known) (path : List ℕ) (holds : Option (List ℕ))
     (read_before read_now : ℕ) (given now : Option (List ℕ)) (put_before put_now : ℕ) (a b : Seen) (why : Failure)
     : Type 0 where
-  pub no_storage : IsNoStorage asked.storages holds
+  pub no_storage : IsLookedAt asked.storages holds None
   pub read_between : ℕ
   pub later : read_before ≤ read_between
   pub cause : IsNoSoughtReport asked known path holds read_between read_now given now put_before put_now a b why
@@ -108,6 +106,6 @@ pub record IsNotAsLaid (asked : Asked) (known : Known) (path : List ℕ) (holds 
 abbrev pub IsNoUnloggedReport : Asked → Known → List ℕ → Option (List ℕ) → ℕ → ℕ → Option (List ℕ) → Option (List ℕ)
     → ℕ → ℕ → Seen → Seen → Failure → Type 0
 IsNoUnloggedReport asked known path holds read_before read_now given now put_before put_now a b why =
-    IsUnseenStorage read_before read_now given now a b why
+    IsUnseenStorage asked.storages holds read_before read_now given now a b why
     ⊎ (IsNotAsStorage asked path holds given now put_before put_now a b why
     ⊎ IsNotAsLaid asked known path holds read_before read_now given now put_before put_now a b why)

@@ -8,6 +8,7 @@ use outside::Load;
 use report_entry::{HintedPlan, Layouts, Refusal, plan_found};
 use report_tool::{Format, Known, Plan, find};
 use std::alloc::{AllocError, Global};
+use storage_words::Storages;
 use symbols::Symbols;
 
 /// A copy of all of a machine's memory.
@@ -51,8 +52,8 @@ pub struct Asked {
     pub map: Option<Vec<u8>>,
     /// Which images are text logs, where no layout is known.
     pub logs: Logs,
-    /// Whether an image of which no layout is known, and that is no text log, is looked at for a storage.
-    pub storages: bool,
+    /// Which images of which no layout is known, and that are no text logs, are storages of the kernel's pstore_zone.
+    pub storages: Storages,
     /// If the files are whole memories, in which the regions are reported.
     pub memory: Option<WholeMemory>,
     /// Whether the records are saved.

@@ -117,13 +117,13 @@ fn above_other_records(rt: HostRuntime) -> Result<(), Fail> {
             params(4096, 0),
             0x4347_4244,
             &panic[..],
-            "<pre class=\"say\">messages of user space</pre>\n<details>\n<summary><b>pmsg-ramoops-0</b>",
+            "<summary><span class=\"say\">messages of user space</span>\n<b>pmsg-ramoops-0</b>",
         ),
         (
             params(0, 4096),
             0x4341_4384,
             FTRACE,
-            "<pre class=\"say\">function trace</pre>\n<details>\n<summary><b>ftrace-ramoops-0</b>",
+            "<summary><span class=\"say\">function trace</span>\n<b>ftrace-ramoops-0</b>",
         ),
     ] {
         let page = page(rt.alloc(), &params, signature, log)?;

@@ -49,8 +49,12 @@ fn hostile_record(rt: HostRuntime) -> Result<(), Fail> {
     assert!(rt;
         text.contains(
             "<svg x=\"0e-3%\" width=\"100000e-3%\"><title>console 0: found</title>\
-<rect class=\"zone\" width=\"100%\" height=\"52\"/><rect class=\"ok\" y=\"42\" height=\"10\" width=\"488e-3%\"/>\
-<g><text x=\"3\" y=\"13\">console 0</text><text x=\"3\" y=\"27\">4096</text></g></svg>\n"
+<rect class=\"zone\" width=\"100%\" height=\"52\"/>\
+<svg class=\"strip\" y=\"28\" viewBox=\"0 0 4096 24\" preserveAspectRatio=\"none\">
+<rect class=\"ok\" y=\"12\" height=\"12\" x=\"0\" width=\"12\"><title>header, clean</title></rect>
+<rect class=\"ok\" y=\"12\" height=\"12\" x=\"12\" width=\"128\"><title>block 0, clean</title></rect>
+<rect class=\"off\" y=\"20\" height=\"4\" x=\"140\" width=\"3956\"><title>blocks 1 to 31, not in use</title></rect>
+</svg><g><text x=\"3\" y=\"13\">console 0</text><text x=\"3\" y=\"27\">4096</text></g></svg>\n"
         )
     );
     assert!(rt;
@@ -66,7 +70,7 @@ fn hostile_record(rt: HostRuntime) -> Result<(), Fail> {
     );
     assert!(rt;
         text.contains(
-            "<b>console-ramoops-0</b><span>8 bytes</span></summary>
+            "<b>console-ramoops-0</b><span>8 bytes</span><span class=\"ok\">clean</span></summary>
 <pre class=\"log\" id=\"console-ramoops-0\">\n&lt;script&gt;</pre>\n"
         )
     );
@@ -118,13 +122,32 @@ fn spots_that_are_not_clean(rt: HostRuntime) -> Result<(), Fail> {
     Ok(())
 }
 
+// The more bytes of a block were corrected the higher it is, and a bad one is the highest. The parity has an outline.
+#[test]
+fn drawn_blocks(rt: HostRuntime) -> Result<(), Fail> {
+    let page = console_page(rt.alloc(), 16, damaged_zeros(rt.alloc())?)?;
+    let text = str::from_utf8(page.as_slice())?;
+    let strip = " viewBox=\"0 0 4096 24\" preserveAspectRatio=\"none\">
+<rect class=\"fix\" y=\"9\" height=\"15\" x=\"0\" width=\"12\"><title>header, corrected, bytes corrected in each: 1\
+</title></rect>\n";
+    assert!(rt; text.contains(strip));
+    for shown in [
+        "<rect class=\"fix\" y=\"8\" height=\"16\" x=\"396\" width=\"256\"><title>blocks 3 to 4, corrected",
+        "<rect class=\"bad\" y=\"0\" height=\"24\" x=\"780\" width=\"128\"><title>block 6, bad</title></rect>\n",
+        "<rect class=\"par\" y=\"12\" height=\"12\" x=\"3616\" width=\"480\"><title>parity</title></rect>\n</svg>",
+    ] {
+        assert!(rt; text.contains(shown), "{shown}");
+    }
+    Ok(())
+}
+
 #[test]
 fn compressed_dumps(rt: HostRuntime) -> Result<(), Fail> {
     for (packed, record) in [
         (
             &WHOLE[..],
-            "<b>dmesg-ramoops-0</b><span>2025-11-27 00:04:18.836908 UTC</span><span>24 bytes</span>\
-<span>inflated from 26 bytes</span></summary>
+            "<b>dmesg-ramoops-0</b><span>Panic#1 Part1</span><span>2025-11-27 00:04:18.836908 UTC</span>\
+<span>24 bytes</span><span>inflated from 26 bytes</span><span class=\"ok\">clean</span></summary>
 <pre class=\"log\" id=\"dmesg-ramoops-0\">
 Panic#1 Part1
 red \\x1b\\x5c&lt;b&gt;
@@ -132,16 +155,17 @@ red \\x1b\\x5c&lt;b&gt;
         ),
         (
             &WHOLE[..22],
-            "<b>dmesg-ramoops-0.enc.z</b><span>2025-11-27 00:04:18.836908 UTC</span><span>22 bytes</span>\
-<span class=\"fix\">inflated in part: end of input</span></summary>
+            "<b>dmesg-ramoops-0.enc.z</b><span>Panic#1 Part1</span><span>2025-11-27 00:04:18.836908 UTC</span>\
+<span>22 bytes</span><span class=\"fix\">inflated in part: end of input</span><span class=\"ok\">clean</span></summary>
 <pre class=\"log\" id=\"dmesg-ramoops-0.enc.z\">
 Panic#1 Part1
 red \\x1b\\x5c&lt;</pre>",
         ),
         (
             &DAMAGED,
-            "<b>dmesg-ramoops-0.enc.z</b><span>2025-11-27 00:04:18.836908 UTC</span><span>12 bytes</span>\
-<span class=\"fix\">inflated in part: reserved block type</span></summary>
+            "<b>dmesg-ramoops-0.enc.z</b><span></span><span>2025-11-27 00:04:18.836908 UTC</span>\
+<span>12 bytes</span><span class=\"fix\">inflated in part: reserved block type</span>\
+<span class=\"ok\">clean</span></summary>
 <pre class=\"log\" id=\"dmesg-ramoops-0.enc.z\">
 
 red \\xc3</pre>",
@@ -182,11 +206,12 @@ fn why_it_died(rt: HostRuntime) -> Result<(), Fail> {
 <tr><th scope=\"row\">Function</th><td>sysrq_handle_crash+0x16/0x20</td></tr>
 <tr><th scope=\"row\">Signature</th><td>kernel panic: &lt;b&gt;\\xff</td></tr>
 <tr><th scope=\"row\">Told by</th><td><a href=\"#dmesg-ramoops-0\">dmesg-ramoops-0</a></td></tr>
+<tr><th scope=\"row\">Read</th><td><span class=\"ok\">clean</span></td></tr>
 </table>
 </header>
 <main>
 <h2 id=\"told\">The lines that tell it, in dmesg-ramoops-0</h2>
-<pre class=\"log\">
+<pre class=\"log\" id=\"dmesg-ramoops-0\">
 Panic#1 Part1
 <mark><i class=\"l0\">&lt;0&gt;[    2.500000] Kernel panic - not syncing: &lt;b&gt;\\xff
 </i></mark><i class=\"l4\">&lt;4&gt;[    2.600000] CPU: 0 PID: 1 Comm: init Not tainted 6.1.0 #1
@@ -208,7 +233,7 @@ fn why_it_died_by_the_console(rt: HostRuntime) -> Result<(), Fail> {
 <tr><th scope=\"row\">Signature</th><td>kernel panic: sysrq triggered crash</td></tr>
 <tr><th scope=\"row\">Told by</th><td><a href=\"#console-ramoops-0\">console-ramoops-0</a></td></tr>\n";
     assert!(rt; shows(rt, [NONE, NONE, NONE, CONSOLE], died)?);
-    let lines = "<pre class=\"log\">
+    let lines = "<pre class=\"log\" id=\"console-ramoops-0\">
 [    3.034160] sysrq: Trigger a crash
 <mark>[    3.034971] Kernel panic - not syncing: sysrq triggered crash
 </mark>[    3.036072] Kernel Offset: disabled
@@ -216,7 +241,7 @@ fn why_it_died_by_the_console(rt: HostRuntime) -> Result<(), Fail> {
     assert!(rt; shows(rt, [NONE, NONE, NONE, CONSOLE], lines)?);
     let both = "<pre class=\"why\">Oops: a\nKernel panic - not syncing: Fatal exception</pre>\n";
     assert!(rt; shows(rt, [NONE, NONE, NONE, FATAL], both)?);
-    let marked = "<pre class=\"log\">
+    let marked = "<pre class=\"log\" id=\"console-ramoops-0\">
 <mark>[    3.0] Oops: a\n</mark><mark>[    3.1] Kernel panic - not syncing: Fatal exception\n</mark></pre>\n";
     assert!(rt; shows(rt, [NONE, NONE, NONE, FATAL], marked)?);
     let none = "</nav>\n<pre class=\"why\">no death: no record tells of the kernel</pre>
@@ -262,6 +287,7 @@ fn what_is_known(rt: HostRuntime) -> Result<(), Fail> {
 <tr><th scope=\"row\">Up</th><td>312.884310 s (5 min 12 s)</td></tr>
 <tr><th scope=\"row\">Last line</th><td>reboot: Restarting system</td></tr>
 <tr><th scope=\"row\">Told by</th><td><a href=\"#console-ramoops-0\">console-ramoops-0</a></td></tr>
+<tr><th scope=\"row\">Read</th><td><span class=\"ok\">clean</span></td></tr>
 </table>
 </header>
 <main>
@@ -273,32 +299,33 @@ fn what_is_known(rt: HostRuntime) -> Result<(), Fail> {
     Ok(())
 }
 
-// Above each record stands its telling line, with the function that is named below it.
+// The summary of each record has its telling line, with the function that is named below it, and a dump's first line.
 #[test]
 fn telling_lines_of_the_list(rt: HostRuntime) -> Result<(), Fail> {
     for record in [
-        "<pre class=\"say\">BUG: kernel NULL pointer dereference, address: 0000000000000000
-<span>lkdtm_EXCEPTION+0x8/0x14 [lkdtm]</span></pre>
-<details>\n<summary><b>dmesg-ramoops-0</b><span>2026-11-26 23:44:14.642000 UTC</span>",
-        "<pre class=\"say\">Kernel panic - not syncing: sysrq triggered crash</pre>
-<details>\n<summary><b>dmesg-ramoops-1</b><span>2026-11-26 23:44:14.688627 UTC</span>",
-        "<pre class=\"say\">Kernel panic - not syncing: sysrq triggered crash</pre>
-<details>\n<summary><b>console-ramoops-0</b><span>",
+        "<details>\n<summary><span class=\"say\">BUG: kernel NULL pointer dereference, address: 0000000000000000
+<span>lkdtm_EXCEPTION+0x8/0x14 [lkdtm]</span></span>
+<b>dmesg-ramoops-0</b><span>Oops#7 Part1</span><span>2026-11-26 23:44:14.642000 UTC</span>",
+        "<details>\n<summary><span class=\"say\">Kernel panic - not syncing: sysrq triggered crash</span>
+<b>dmesg-ramoops-1</b><span>Panic#8 Part1</span><mark>tells why it died</mark>\
+<span>2026-11-26 23:44:14.688627 UTC</span>",
+        "<details>\n<summary><span class=\"say\">Kernel panic - not syncing: sysrq triggered crash</span>
+<b>console-ramoops-0</b><span>",
     ] {
         assert!(rt;
             shows(rt, [OOPS, PANIC, NONE, CONSOLE], record)?,
             "{record}"
         );
     }
-    let hostile = "<pre class=\"say\">Kernel panic - not syncing: &lt;b&gt;\\xff
-<span>sysrq_handle_crash+0x16/0x20</span></pre>
-<details>\n<summary><b>dmesg-ramoops-0</b>";
+    let hostile = "<summary><span class=\"say\">Kernel panic - not syncing: &lt;b&gt;\\xff
+<span>sysrq_handle_crash+0x16/0x20</span></span>\n<b>dmesg-ramoops-0</b>";
     assert!(rt; shows(rt, [NAMED, NONE, NONE, NONE], hostile)?);
     // a fatal exception is told by the oops above it
-    let fatal = "<pre class=\"say\">Oops: a</pre>\n<details>\n<summary><b>console-ramoops-0</b>";
+    let fatal =
+        "<span class=\"say\">Oops: a</span>\n<b>console-ramoops-0</b><mark>tells why it died</mark>";
     assert!(rt; shows(rt, [NONE, NONE, NONE, FATAL], fatal)?);
     let silent =
-        "<pre class=\"say\">no telling line</pre>\n<details>\n<summary><b>console-ramoops-0</b>";
+        "<summary><span class=\"say\">no telling line</span>\n<b>console-ramoops-0</b><span>";
     assert!(rt; shows(rt, [NONE, NONE, NONE, b"[    1.000000] a\n"], silent)?);
     Ok(())
 }
@@ -317,7 +344,7 @@ fn dumps_by_telling_line(rt: HostRuntime) -> Result<(), Fail> {
 <tr><td class=\"n\">1 &times;</td><td class=\"wrap\">no telling line</td>\
 <td><a href=\"#dmesg-ramoops-1\">dmesg-ramoops-1</a></td><td>2026-11-26 23:44:15.000000 UTC</td></tr>
 </table></div>
-<pre class=\"say\">";
+<details>\n<summary><span class=\"say\">";
     assert!(rt; shows(rt, [NAMED, SILENT, NAMED, NONE], table)?);
     assert!(rt; !shows(rt, [NAMED, NONE, NONE, CONSOLE], "Dumps by telling line")?);
     Ok(())
@@ -330,20 +357,19 @@ fn unfolded_dump(rt: HostRuntime) -> Result<(), Fail> {
     assert!(rt; !shows(rt, [OOPS, PANIC, NONE, CONSOLE], open)?);
     assert!(rt; !shows(rt, [NONE, NONE, NONE, CONSOLE], open)?);
     assert!(rt; !shows(rt, [NONE, NONE, NONE, NONE], open)?);
-    let newest = "<pre class=\"say\">no telling line</pre>
-<details open>\n<summary><b>dmesg-ramoops-1</b><span>2026-11-26 23:44:15.000000 UTC</span>";
+    let newest = "<details open>\n<summary><span class=\"say\">no telling line</span>
+<b>dmesg-ramoops-1</b><span>Panic#9 Part1</span><span>2026-11-26 23:44:15.000000 UTC</span>";
     assert!(rt; shows(rt, [OOPS, SILENT, NONE, CONSOLE], newest)?);
-    let older = "</pre>\n<details>\n<summary><b>dmesg-ramoops-0</b>";
+    let older = "\n<details>\n<summary><span class=\"say\">BUG: kernel";
     assert!(rt; shows(rt, [OOPS, SILENT, NONE, CONSOLE], older)?);
-    let console = "</pre>\n<details>\n<summary><b>console-ramoops-0</b>";
+    let console = "\n<details>\n<summary><span class=\"say\">Kernel panic";
     assert!(rt; shows(rt, [OOPS, SILENT, NONE, CONSOLE], console)?);
     // no record tells
     let silent =
-        "<pre class=\"say\">no telling line</pre>\n<details open>\n<summary><b>dmesg-ramoops-2</b>";
+        "<details open>\n<summary><span class=\"say\">no telling line</span>\n<b>dmesg-ramoops-2</b>";
     assert!(rt; shows(rt, [NONE, NONE, SILENT, NONE], silent)?);
     // the console has a panic that the dump lacks
-    let dump =
-        "<span>lkdtm_EXCEPTION+0x8/0x14 [lkdtm]</span></pre>\n<details open>\n<summary><b>dmesg-ramoops-0</b>";
+    let dump = "<details open>\n<summary><span class=\"say\">BUG: kernel";
     assert!(rt; shows(rt, [OOPS, NONE, NONE, CONSOLE], dump)?);
     Ok(())
 }
@@ -391,16 +417,16 @@ fn groups_of_dumps(rt: HostRuntime) -> Result<(), Fail> {
     let text = str::from_utf8(page.as_slice())?;
     for shown in [
         "</table></div>\n<details class=\"group\">\n<summary><b>Dump zones from 0</b></summary>
-<pre class=\"say\">no telling line</pre>\n<details>\n<summary><b>dmesg-ramoops-0</b>",
+<details>\n<summary><span class=\"say\">no telling line</span>\n<b>dmesg-ramoops-0</b>",
         "a\n</pre>\n</details>
-<pre class=\"say\">no telling line</pre>\n<details>\n<summary><b>dmesg-ramoops-31</b>",
+<details>\n<summary><span class=\"say\">no telling line</span>\n<b>dmesg-ramoops-31</b>",
         "b\n</pre>\n</details>\n</details>
 <details class=\"group\" open>\n<summary><b>Dump zones from 32</b></summary>
-<pre class=\"say\">no telling line</pre>\n<details open>\n<summary><b>dmesg-ramoops-32</b>",
+<details open>\n<summary><span class=\"say\">no telling line</span>\n<b>dmesg-ramoops-32</b>",
         "c\n</pre>\n</details>
-<pre class=\"say\">no telling line</pre>\n<details>\n<summary><b>dmesg-ramoops-35</b>",
+<details>\n<summary><span class=\"say\">no telling line</span>\n<b>dmesg-ramoops-35</b>",
         "d\n</pre>\n</details>\n</details>
-<pre class=\"say\">no telling line</pre>\n<details>\n<summary><b>console-ramoops-0</b>",
+<details>\n<summary><span class=\"say\">no telling line</span>\n<b>console-ramoops-0</b>",
         "e\n</pre>\n</details>\n<h2 id=\"region\">",
     ] {
         assert!(rt; text.contains(shown), "{shown}");
@@ -458,7 +484,7 @@ fn more_lines_than_rows(rt: HostRuntime) -> Result<(), Fail> {
     Ok(())
 }
 
-// Eight lines above the telling line and 16 below it.
+// Eight lines above the telling line and 16 below it. The others are folded, and the list has none of them again.
 #[test]
 fn lines_around_the_death(rt: HostRuntime) -> Result<(), Fail> {
     let mut log = Vec::new(rt.alloc());
@@ -466,12 +492,19 @@ fn lines_around_the_death(rt: HostRuntime) -> Result<(), Fail> {
     log.extend_from_slice(b"Kernel panic - not syncing: x\n")?;
     log.extend_from_slice(b"b0\nb1\nb2\nb3\nb4\nb5\nb6\nb7\nb8\nb9\n")?;
     log.extend_from_slice(b"c0\nc1\nc2\nc3\nc4\nc5\nc6\nc7\nc8\nc9\n")?;
-    let shown = "<pre class=\"log\">
+    let shown = "<details>\n<summary>Lines before</summary>\n<pre class=\"log\">
+a0\na1
+</pre>\n</details>\n<pre class=\"log\" id=\"console-ramoops-0\">
 a2\na3\na4\na5\na6\na7\na8\na9
 <mark>Kernel panic - not syncing: x
 </mark>b0\nb1\nb2\nb3\nb4\nb5\nb6\nb7\nb8\nb9\nc0\nc1\nc2\nc3\nc4\nc5
-</pre>\n";
+</pre>\n<details>\n<summary>Lines after</summary>\n<pre class=\"log\">
+c6\nc7\nc8\nc9
+</pre>\n</details>\n<h2 id=\"records\">";
     assert!(rt; shows(rt, [NONE, NONE, NONE, log.as_slice()], shown)?);
+    let listed = "</summary>\n<p class=\"note\">Its lines stand above: \
+<a href=\"#console-ramoops-0\">console-ramoops-0</a></p>\n</details>\n<h2 id=\"region\">";
+    assert!(rt; shows(rt, [NONE, NONE, NONE, log.as_slice()], listed)?);
     Ok(())
 }
 
@@ -487,8 +520,8 @@ fn lines_by_level(rt: HostRuntime) -> Result<(), Fail> {
 </i><i class=\"l5\">&lt;5&gt;f
 </i>&lt;6&gt;g
 <i class=\"l7\">&lt;7&gt;h
-</i><i class=\"l3\">&lt;11&gt;i
-</i>j</pre>\n";
+</i>&lt;11&gt;i
+j</pre>\n";
     assert!(rt; shows(rt, [NONE, NONE, NONE, log], shown)?);
     Ok(())
 }
@@ -512,13 +545,16 @@ fn times(rt: HostRuntime) -> Result<(), Fail> {
     Ok(())
 }
 
-// The newest other dump that tells: one without a telling line is passed, and so is one that is older.
+// The newest other dump that tells, and what its report names: one without a telling line is passed, and so is one that is older.
 #[test]
 fn what_was_before_it(rt: HostRuntime) -> Result<(), Fail> {
     let before =
         "<tr><th scope=\"row\">Before it</th><td><a href=\"#dmesg-ramoops-1\">dmesg-ramoops-1</a>, \
 2026-11-26 23:44:14.642000 UTC
-BUG: kernel NULL pointer dereference, address: 0000000000000000</td></tr>
+BUG: kernel NULL pointer dereference, address: 0000000000000000
+CPU 0
+Function lkdtm_EXCEPTION+0x8/0x14 [lkdtm]
+Task PID: 40 Comm: init</td></tr>
 <tr><th scope=\"row\">Told by</th><td><a href=\"#dmesg-ramoops-0\">dmesg-ramoops-0</a>";
     assert!(rt; shows(rt, [PANIC, OOPS, NAMED, CONSOLE], before)?);
     let silent = b"====1795736654.650000-D\nnothing\n";
@@ -526,7 +562,10 @@ BUG: kernel NULL pointer dereference, address: 0000000000000000</td></tr>
     let by_console =
         "<tr><th scope=\"row\">Before it</th><td><a href=\"#dmesg-ramoops-1\">dmesg-ramoops-1</a>, \
 2026-11-26 23:44:14.642000 UTC
-BUG: kernel NULL pointer dereference, address: 0000000000000000</td></tr>
+BUG: kernel NULL pointer dereference, address: 0000000000000000
+CPU 0
+Function lkdtm_EXCEPTION+0x8/0x14 [lkdtm]
+Task PID: 40 Comm: init</td></tr>
 <tr><th scope=\"row\">Told by</th><td><a href=\"#console-ramoops-0\">console-ramoops-0</a></td></tr>\n";
     assert!(rt; shows(rt, [NAMED, OOPS, NONE, CONSOLE], by_console)?);
     assert!(rt; !shows(rt, [PANIC, NONE, silent, CONSOLE], "Before it")?);
@@ -536,10 +575,13 @@ BUG: kernel NULL pointer dereference, address: 0000000000000000</td></tr>
 // A dump outlives boots, the console does not.
 #[test]
 fn whether_the_console_tells_the_same(rt: HostRuntime) -> Result<(), Fail> {
-    let same = "dmesg-ramoops-0</a>\nthe console has the same line</td></tr>\n</table>\n";
+    let same =
+        "dmesg-ramoops-0</a>\nthe console has the same line</td></tr>\n<tr><th scope=\"row\">Read</th><td>\
+<span class=\"ok\">clean</span></td></tr>\n</table>\n";
     assert!(rt; shows(rt, [PANIC, OOPS, NONE, CONSOLE], same)?);
     let other = "dmesg-ramoops-0</a>
-the console lacks this line: it can be of another boot</td></tr>\n</table>\n";
+the console lacks this line: it can be of another boot</td></tr>\n<tr><th scope=\"row\">Read</th><td>\
+<span class=\"ok\">clean</span></td></tr>\n</table>\n";
     let later = b"[    1.000000] Linux version 6.1.0\n";
     assert!(rt; shows(rt, [PANIC, OOPS, NONE, later], other)?);
     // neither without a console, nor if the console tells
@@ -581,7 +623,7 @@ The place or the parameters can be other than the kernel's.</p>
 <table class=\"fact\">\n";
     assert!(rt; str::from_utf8(page.as_slice())?.contains(warned));
     let read =
-        "<b>console-ramoops-0</b><span>1048 bytes</span><span class=\"bad\">bad 2</span></summary>\n";
+        "<b>console-ramoops-0</b><mark>tells why it died</mark><span>1048 bytes</span><span class=\"bad\">bad 2</span></summary>\n";
     assert!(rt; str::from_utf8(page.as_slice())?.contains(read));
     Ok(())
 }

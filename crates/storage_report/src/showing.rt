@@ -35,6 +35,7 @@ fn shown(
         format,
         path,
         &read.report,
+        "",
     )
 }
 

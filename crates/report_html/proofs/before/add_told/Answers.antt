@@ -4,12 +4,12 @@ use Rattle.zone_spec.specs.Parts.{AreBytes}
 use Rattle.report_spec.specs.Packed.{RecordShown, readable}
 use Rattle.region_report.specs.Tellers.{as_told}
 use Rattle.report_html.specs.Pieces.{Part, Words, Link, parts}
-use Rattle.report_html.specs.Before.{time_after, line_below}
+use Rattle.report_html.specs.Before.{time_after, line_below, context_below}
 use Rattle.report_html.proofs.PartSums.{joined}
 use Rattle.report_html.proofs.before.add_told.Goals as goal
 
 pub returns-clause-bytes : goal.returns-clause-bytes
-returns-clause-bytes c = subst AreBytes c.readable.ensures c.in_ok-add_line_below.ensures.bytes
+returns-clause-bytes c = subst AreBytes c.readable-text.ensures c.in_ok-add_line_below.ensures.bytes
 
 pub returns-clause-parts : goal.returns-clause-parts
 returns-clause-parts c =
@@ -28,5 +28,12 @@ returns-clause-parts c =
     c.in_ok-add_time_after.ensures ∙ ap (λ (q : RecordShown). p1 ++ time_after q.time) c.teller.view_is in
     let t2 = joined old a1 a2 p1 p2 e1 e2 in
     let e3 : p3 ≡ p2 ++ a3 = c.in_ok-add_line_below.ensures.parts
-    ∙ ap (λ (bs : List ℕ). p2 ++ line_below bs t.death.telling) c.readable.ensures in
-    joined old (a1 ++ a2) a3 p2 p3 t2 e3
+    ∙ ap (λ (bs : List ℕ). p2 ++ line_below bs t.death.telling) c.readable-text.ensures in
+    let t3 = joined old (a1 ++ a2) a3 p2 p3 t2 e3 in
+    let p4 = parts c.add_context.new.pieces.items in
+    let a4 : List Part = context_below (readable t.teller) t.death in
+    let e4 : p4 ≡ p3 ++ a4 = c.in_ok-add_context.ensures
+    ∙ ap (λ (bs : List ℕ). p3 ++ context_below bs t.death) c.readable-text.ensures in
+    let t4 = joined old (a1 ++ a2 ++ a3) a4 p3 p4 t3 e4 in
+    joined old (a1 ++ a2 ++ a3 ++ a4) (Words (codes "</td></tr>\n") ∷ []) p4 (parts c.add-2.new.pieces.items) t4
+    c.in_ok-add-2.ensures

@@ -1,11 +1,13 @@
 -- What is known of the death, and that it is bytes
-use Rattle.std.proofs.Common.{◌≡◌, ◌++◌, ◌∙◌, List, [], ◌∷◌, ℕ, Option, codes, ap, subst}
+use Rattle.std.proofs.Common.{◌≡◌, ◌++◌, ◌∙◌, List, ℕ, Option, codes, ap, subst}
 use Rattle.zone_spec.specs.Parts.{AreBytes}
+use Rattle.zone_spec.specs.Records.{Saved}
+use Rattle.prz_read.specs.Saving.{saved}
 use Rattle.report_spec.specs.Packed.{RecordShown, readable}
 use Rattle.report_spec.specs.Newest.{console_of}
 use Rattle.report_spec.specs.Facts.{MachineTold, uptime_of, machine_of}
 use Rattle.region_report.specs.Tellers.{as_told}
-use Rattle.report_html.specs.Pieces.{Part, Words, parts}
+use Rattle.report_html.specs.Pieces.{Part, parts}
 use Rattle.report_html.specs.Facts.{when_parts, up_parts, bytes_parts, machine_parts}
 use Rattle.report_html.specs.Before.{told_before, before_parts}
 use Rattle.report_html.specs.Died.{context_parts, console_words, teller_parts, around_parts}
@@ -29,6 +31,7 @@ returns-clause-parts c =
     let t = as_told c.args.told.now in
     let records = c.args.records.now in
     let text : List ℕ = readable t.teller in
+    let zones : List Saved = saved c.args.logs.now in
     let old = parts c.args.pieces.now.items in
     let p1 = parts c.add_when.new.pieces.items in
     let p2 = parts c.add_up.new.pieces.items in
@@ -38,7 +41,6 @@ returns-clause-parts c =
     let p6 = parts c.add_before.new.pieces.items in
     let p7 = parts c.add_teller.new.pieces.items in
     let p8 = parts c.add_around.new.pieces.items in
-    let p9 = parts c.add.new.pieces.items in
     let a1 : List Part = when_parts t.teller.time in
     let a2 : List Part = up_parts (uptime_of text t.death.telling) in
     let a3 : List Part = context_parts text t.death in
@@ -46,9 +48,8 @@ returns-clause-parts c =
     let a5 : List Part = machine_parts (machine_of t (console_of records)) in
     let a6 : List Part = before_parts (told_before t.teller.name records) in
     let words : List ℕ = console_words t (console_of records) in
-    let a7 : List Part = teller_parts t.teller.name words in
-    let a8 : List Part = around_parts text t.death in
-    let a9 : List Part = Words (codes "</pre>\n") ∷ [] in
+    let a7 : List Part = teller_parts zones t.teller.name words in
+    let a8 : List Part = around_parts t.teller.name text t.death in
     let e1 : p1 ≡ old ++ a1 =
     c.in_ok-add_when.ensures ∙ ap (λ (q : RecordShown). old ++ when_parts q.time) c.teller.view_is in
     let e2 : p2 ≡ p1 ++ a2 = c.in_ok-add_up.ensures.parts ∙ ap (λ (bs : List ℕ). p1 ++ up_parts bs)
@@ -61,17 +62,16 @@ returns-clause-parts c =
     let e6 : p6 ≡ p5 ++ a6 = c.in_ok-add_before.ensures.parts
     ∙ ap (λ (q : RecordShown). p5 ++ before_parts (told_before q.name records)) c.teller.view_is in
     let e7 : p7 ≡ p6 ++ a7 = c.in_ok-add_teller.ensures
-    ∙ ap (λ (q : RecordShown). p6 ++ teller_parts q.name c.console_text.result.now) c.teller.view_is
-    ∙ ap (λ (bs : List ℕ). p6 ++ teller_parts t.teller.name bs)
-    (c.console_text.ensures ∙ ap (λ (r : Option RecordShown). console_words t r) c.console-2.ensures) in
+    ∙ ap (λ (q : RecordShown). p6 ++ teller_parts zones q.name c.console_text-words.result.now) c.teller.view_is
+    ∙ ap (λ (bs : List ℕ). p6 ++ teller_parts zones t.teller.name bs)
+    (c.console_text-words.ensures ∙ ap (λ (r : Option RecordShown). console_words t r) c.console-2.ensures) in
     let e8 : p8 ≡ p7 ++ a8 = c.in_ok-add_around.ensures.parts
-    ∙ ap (λ (bs : List ℕ). p7 ++ around_parts bs t.death) c.readable-text.ensures in
-    let e9 : p9 ≡ p8 ++ a9 = c.in_ok-add.ensures in
+    ∙ ap (λ (q : RecordShown). p7 ++ around_parts q.name c.readable-text.result.now t.death) c.teller.view_is
+    ∙ ap (λ (bs : List ℕ). p7 ++ around_parts t.teller.name bs t.death) c.readable-text.ensures in
     let t2 = joined old a1 a2 p1 p2 e1 e2 in
     let t3 = joined old (a1 ++ a2) a3 p2 p3 t2 e3 in
     let t4 = joined old (a1 ++ a2 ++ a3) a4 p3 p4 t3 e4 in
     let t5 = joined old (a1 ++ a2 ++ a3 ++ a4) a5 p4 p5 t4 e5 in
     let t6 = joined old (a1 ++ a2 ++ a3 ++ a4 ++ a5) a6 p5 p6 t5 e6 in
     let t7 = joined old (a1 ++ a2 ++ a3 ++ a4 ++ a5 ++ a6) a7 p6 p7 t6 e7 in
-    let t8 = joined old (a1 ++ a2 ++ a3 ++ a4 ++ a5 ++ a6 ++ a7) a8 p7 p8 t7 e8 in
-    joined old (a1 ++ a2 ++ a3 ++ a4 ++ a5 ++ a6 ++ a7 ++ a8) a9 p8 p9 t8 e9
+    joined old (a1 ++ a2 ++ a3 ++ a4 ++ a5 ++ a6 ++ a7) a8 p7 p8 t7 e8

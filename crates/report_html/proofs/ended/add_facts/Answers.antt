@@ -1,12 +1,14 @@
 -- What is known of the end, and that it is bytes
-use Rattle.std.proofs.Common.{◌≡◌, ◌++◌, ◌∙◌, List, [], ◌∷◌, ℕ, codes, ap, subst}
+use Rattle.std.proofs.Common.{◌≡◌, ◌++◌, ◌∙◌, List, ℕ, ap, subst}
 use Rattle.zone_spec.specs.Parts.{AreBytes}
+use Rattle.zone_spec.specs.Records.{Saved}
+use Rattle.prz_read.specs.Saving.{saved}
 use Rattle.report_spec.specs.Packed.{RecordShown, readable}
 use Rattle.report_spec.specs.Facts.{MachineTold, uptime_of, machine_ended}
 use Rattle.region_report.specs.Tellers.{as_ended}
-use Rattle.report_html.specs.Pieces.{Part, Words, Link, parts}
+use Rattle.report_html.specs.Pieces.{Part, parts}
 use Rattle.report_html.specs.Facts.{when_parts, up_parts, machine_parts}
-use Rattle.report_html.specs.Ended.{last_parts}
+use Rattle.report_html.specs.Ended.{last_parts, told_parts}
 use Rattle.report_html.specs.Escaping.{AreMachineBytes}
 use Rattle.report_html.proofs.PartSums.{joined}
 use Rattle.report_html.proofs.ended.add_facts.Goals as goal
@@ -22,19 +24,18 @@ returns-clause-parts c =
     let t = as_ended c.args.end.now in
     let line = t.ended.line in
     let text : List ℕ = readable t.teller in
-    let named : RecordShown → List Part = λ q. Words (codes "<tr><th scope=\"row\">Told by</th><td>") ∷ Link q.name
-    ∷ Words (codes "</td></tr>\n</table>\n</header>\n<main>\n") ∷ [] in
+    let zones : List Saved = saved c.args.logs.now in
     let old = parts c.args.pieces.now.items in
     let p1 = parts c.add_when.new.pieces.items in
     let p2 = parts c.add_up.new.pieces.items in
     let p3 = parts c.add_last.new.pieces.items in
     let p4 = parts c.add_machine.new.pieces.items in
-    let p5 = parts c.add.new.pieces.items in
+    let p5 = parts c.add_told.new.pieces.items in
     let a1 : List Part = when_parts t.teller.time in
     let a2 : List Part = up_parts (uptime_of text line) in
     let a3 : List Part = last_parts text line in
     let a4 : List Part = machine_parts (machine_ended t) in
-    let a5 : List Part = named t.teller in
+    let a5 : List Part = told_parts zones t.teller.name in
     let e1 : p1 ≡ old ++ a1 =
     c.in_ok-add_when.ensures ∙ ap (λ (q : RecordShown). old ++ when_parts q.time) c.teller.view_is in
     let e2 : p2 ≡ p1 ++ a2 = c.in_ok-add_up.ensures.parts ∙ ap (λ (bs : List ℕ). p1 ++ up_parts bs)
@@ -43,7 +44,8 @@ returns-clause-parts c =
     ∙ ap (λ (bs : List ℕ). p2 ++ last_parts bs line) c.readable-text.ensures in
     let e4 : p4 ≡ p3 ++ a4 = c.in_ok-add_machine.ensures.parts
     ∙ ap (λ (m : MachineTold). p3 ++ machine_parts m) c.machine_ended.ensures in
-    let e5 : p5 ≡ p4 ++ a5 = c.in_ok-add.ensures ∙ ap (λ (q : RecordShown). p4 ++ named q) c.teller.view_is in
+    let e5 : p5 ≡ p4 ++ a5 = c.in_ok-add_told.ensures
+    ∙ ap (λ (q : RecordShown). p4 ++ told_parts zones q.name) c.teller.view_is in
     let t2 = joined old a1 a2 p1 p2 e1 e2 in
     let t3 = joined old (a1 ++ a2) a3 p2 p3 t2 e3 in
     let t4 = joined old (a1 ++ a2 ++ a3) a4 p3 p4 t3 e4 in

@@ -8,10 +8,11 @@ use Rattle.report_html.proofs.page.add_each.Goals as goal
 
 pub loop-held-preserved : goal.loop-held-preserved
 loop-held-preserved c = (
-  listed_on (saved c.args.logs.now) c.args.grouped c.args.number c.loop-held.before c.group_in-group.result c.is_unfolded.result
+  listed_on (saved c.args.logs.now) c.args.grouped c.args.number c.loop-held.before c.group_in-group.result c.args.teller
+      c.is_unfolded-is_open.result c.is_teller-tells.result
       c.args.records.now c.loop-held.held-index c.held-item.result (parts c.args.pieces.now.items)
       (parts c.loop-held.pieces.items) (parts c.add_edge.new.pieces.items) (parts c.add_record.new.pieces.items)
-      c.loop-held-test.true c.held-item.is c.loop-held.invariant.0 c.group_in-group.ensures c.is_unfolded.ensures
+      c.loop-held-test.true c.held-item.is c.loop-held.invariant.0 c.group_in-group.ensures c.is_unfolded-is_open.ensures c.is_teller-tells.ensures
       c.in_ok-add_edge.ensures c.in_ok-add_record.ensures.parts,
   held_next c.args.records.now c.loop-held.held-index c.held-item.result c.held-item.is c.loop-held.invariant.1
       c.in_ok-add_record.ensures.bytes,
@@ -24,7 +25,7 @@ returns-clause-bytes c =
 
 pub returns-clause-parts : goal.returns-clause-parts
 returns-clause-parts c =
-    listed_all (saved c.args.logs.now) c.args.grouped c.args.number c.loop-held.before c.args.records.now
+    listed_all (saved c.args.logs.now) c.args.grouped c.args.number c.loop-held.before c.args.teller c.args.records.now
     c.loop-held.held-index
     (parts c.args.pieces.now.items) (parts c.loop-held.pieces.items) (parts c.add_edge-2.new.pieces.items)
     (let past = c.loop-held-test.false in omega (arith, past)) c.loop-held.invariant.0 c.in_ok-add_edge-2.ensures

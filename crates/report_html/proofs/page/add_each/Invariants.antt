@@ -10,6 +10,6 @@ use Rattle.report_html.proofs.page.add_each.Given as goal
 
 abbrev pub invariant-loop-held : goal.invariant-loop-held
 invariant-loop-held l =
-    (parts l.pieces.items ++ records_after (saved l.logs) l.grouped l.number l.before (drop l.held-index l.records)
-    ≡ parts l.initial.pieces.items ++ records_after (saved l.logs) l.grouped l.number None l.records)
+    (parts l.pieces.items ++ records_after (saved l.logs) l.grouped l.number l.teller l.before (drop l.held-index l.records)
+    ≡ parts l.initial.pieces.items ++ records_after (saved l.logs) l.grouped l.number l.teller None l.records)
     × ((k : ℕ) (r : RecordShown) → k < l.held-index → slice_get l.records k ≡ Some r → AreBytes (readable r))

@@ -10,5 +10,5 @@ returns c =
     let start : c.block_at-start.result ≡ block_at z c.args.from = c.block_at-start.ensures.at in
     let end : c.block_at-end.result ≡ block_at z c.args.to = c.block_at-end.ensures.at in
     c.in_ok-add_opening.ensures
-    ∙ ap₂ (λ (at wide : ℕ). parts c.args.pieces.now.items ++ opening c.args.class.now at wide)
+    ∙ ap₂ (λ (at wide : ℕ). parts c.args.pieces.now.items ++ opening c.args.state at wide)
     (ap (λ (a : ℕ). a + 12) start) (c.saturating_sub.ensures ∙ ap₂ (λ (a b : ℕ). a - b) end start)

@@ -9,7 +9,6 @@ returns c =
       c.in_ok-add_corrected.ensures,
       c.in_ok-add.ensures,
       c.in_ok-add_opening.ensures,
-      c.class_text.ensures,
       c.part_text-words.ensures,
       append_assoc,
     )

@@ -1,17 +1,18 @@
--- The zone's row, its header, and then its blocks
-use Rattle.std.proofs.Common.{◌≡◌, ◌∙◌, ap}
+-- The zone's row, and then its strip
+use Rattle.std.proofs.Common.{List, [], ◌∷◌, ◌++◌, codes}
 use Rattle.std.specs.Option.{option_copied}
-use Rattle.zone_spec.specs.PartStates.{PartStates}
-use Rattle.report_html.specs.Pieces.{parts}
-use Rattle.report_html.proofs.PictureZones.{zone-added}
+use Rattle.report_html.specs.Pieces.{Part, Words, parts}
+use Rattle.report_html.specs.Pictures.{row_parts, strip_parts}
+use Rattle.report_html.proofs.PartSums.{joined}
 use Rattle.report_html.proofs.picture.add_zone.Goals as goal
 
 pub returns : goal.returns
 returns c =
-    let blocks : c.as_slice-blocks.result.now ≡ c.args.states.now.blocks =
-    c.as_slice-blocks.ensures.value ∙ ap (λ (p : PartStates). p.blocks) c.states.view_is in
-    zone-added c.args.zone.now (option_copied c.args.reading) c.args.states.now c.states.inside.header
-    c.as_slice-blocks.result.now (parts c.args.pieces.now.items) (parts c.add_row.new.pieces.items)
-    (parts c.add_header.new.pieces.items) (parts c.add_used.new.pieces.items) (parts c.add_unused.new.pieces.items)
-    (parts c.add.new.pieces.items) (ap (λ (p : PartStates). p.header) c.states.view_is) blocks c.in_ok-add_row.ensures c.in_ok-add_header.ensures
-    c.in_ok-add_used.ensures c.in_ok-add_unused.ensures c.in_ok-add.ensures
+    let z = c.args.zone.now in
+    let old = parts c.args.pieces.now.items in
+    let row : List Part = row_parts z (option_copied c.args.reading) in
+    let strip : List Part = strip_parts z c.args.states.now in
+    let p1 = parts c.add_row.new.pieces.items in
+    let p2 = parts c.add_strip.new.pieces.items in
+    joined old (row ++ strip) (Words (codes "</td></tr>\n") ∷ []) p2 (parts c.add.new.pieces.items)
+    (joined old row strip p1 p2 c.in_ok-add_row.ensures c.in_ok-add_strip.ensures) c.in_ok-add.ensures

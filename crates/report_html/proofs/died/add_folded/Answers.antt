@@ -1,0 +1,14 @@
+-- Lines that are there
+use Rattle.std.proofs.Common.{◌∙◌, ◌++◌, List, ap, sym}
+use Rattle.std.proofs.lemmas.Result.{on_ok_weaker}
+use Rattle.report_html.specs.Pieces.{Part, parts}
+use Rattle.report_html.proofs.FactRows.{folded_is}
+use Rattle.report_html.proofs.died.add_folded.Goals as goal
+
+pub returns : goal.returns
+returns c =
+    let old : List Part = parts c.args.pieces.now.items in
+    on_ok_weaker c.add.result
+    (λ e. e ∙ ap (λ (more : List Part). old ++ more)
+    (folded_is c.args.words.now c.args.bytes.now (sym c.is_empty.ensures ∙ c.if-is_empty.false)))
+    c.add.ensures
