@@ -7,7 +7,7 @@ use Rattle.prz_read.specs.Saving.{SavedLogs, saved}
 use Rattle.zone_spec.specs.PartStates.{PartStates}
 use Rattle.report_spec.specs.declared.Origin.{Origin}
 use Rattle.report_spec.specs.Deaths.{death_told}
-use Rattle.report_json.specs.Schema.{Answers, answers_by, line_with, division_data, record_data, AreZones}
+use Rattle.report_json.specs.Schema.{Answers, answers_by, line_with, division_data, record_data, AreZones, bytes_data}
 use Rattle.report_json.proofs.Places.{if_both}
 use Rattle.report_json.proofs.line.json.Goals as goal
 
@@ -23,16 +23,19 @@ returns c =
     ∙ ap (map shown) c.records.ensures in
     let parameters = division_data c.args.division.now in
     let answers : Answers = answers_by held (death_told held.records) in
-    let line : view c.in_ok-value.value ≡ line_with answers c.args.path.now parameters
+    let better = bytes_data c.args.better.now in
+    let line : view c.in_ok-value.value ≡ line_with answers better c.args.path.now parameters
     (array (items_of (map shown held.records))) (array (items_of values)) =
     c.in_ok-value.ensures
-    ∙ ap (λ (a : Answers). line_with a c.args.path.now (view c.in_ok-parameters.parameters)
-    (view c.from-records.result) (view c.from-zones.result)) c.in_ok-answer.ensures
-    ∙ ap (λ p. line_with answers c.args.path.now p (view c.from-records.result) (view c.from-zones.result))
+    ∙ ap (λ (a : Answers). line_with a (view c.in_ok-better.better) c.args.path.now
+    (view c.in_ok-parameters.parameters) (view c.from-records.result) (view c.from-zones.result)) c.in_ok-answer.ensures
+    ∙ ap (λ b. line_with answers b c.args.path.now (view c.in_ok-parameters.parameters) (view c.from-records.result)
+    (view c.from-zones.result)) (c.in_ok-better.ensures ∙ ap bytes_data c.as_bytes.ensures.value)
+    ∙ ap (λ p. line_with answers better c.args.path.now p (view c.from-records.result) (view c.from-zones.result))
     c.in_ok-parameters.ensures
-    ∙ ap (λ r. line_with answers c.args.path.now parameters r (view c.from-zones.result))
+    ∙ ap (λ r. line_with answers better c.args.path.now parameters r (view c.from-zones.result))
     (c.from-records.ensures ∙ ap (λ (ds : List Data). array (items_of ds)) records)
-    ∙ ap (line_with answers c.args.path.now parameters
+    ∙ ap (line_with answers better c.args.path.now parameters
     (array (items_of (map shown held.records)))) c.from-zones.ensures in
     if_both c.to_string.result _ _ _ (λ text order compact. record {
       values = values;
