@@ -12,9 +12,9 @@ use Rattle.zone_spec.specs.PartStates.{PartStates}
 use Rattle.prz_read.specs.Saving.{SavedLogs, saved}
 use Rattle.pstore_records.proofs.Steps.{collected-more, collected-all}
 use Rattle.report_html.specs.Pieces.{Part, parts}
-use Rattle.report_html.specs.Pictures.{drawn_parts, width_of}
+use Rattle.report_html.specs.Pictures.{map_parts, width_of}
 use Rattle.report_html.proofs.PictureZones.{no_zone, read-at, drawn, all-count}
-use Rattle.report_html.proofs.picture.add_zones.Goals as goal
+use Rattle.report_html.proofs.picture.add_map.Goals as goal
 
 pub loop-i-preserved : goal.loop-i-preserved
 loop-i-preserved c =
@@ -43,12 +43,12 @@ loop-i-preserved c =
     ap (λ (ps : List PartStates). slice_get ps i) (sym c.parts-states.ensures)
     ∙ slice_get-get_or c.parts-states.result.now i p (omega (arith, below, least, fewest))
     ∙ ap (λ (q : PartStates). Some q) (sym c.index-states-i.is) in
-    let f : Saved × PartStates → List Part = drawn_parts c.args.in_table (width_of zones) in
-    let added : parts c.add_drawn.new.pieces.items ≡ parts c.loop-i.pieces.items ++ f ((z, r), p) =
-    c.in_ok-add_drawn.ensures
-    ∙ ap (λ (n : ℕ). parts c.loop-i.pieces.items ++ drawn_parts c.args.in_table n ((z, r), p)) c.width-whole.ensures in
+    let f : Saved × PartStates → List Part = map_parts (width_of zones) in
+    let added : parts c.add_map_zone.new.pieces.items ≡ parts c.loop-i.pieces.items ++ f ((z, r), p) =
+    c.in_ok-add_map_zone.ensures
+    ∙ ap (λ (n : ℕ). parts c.loop-i.pieces.items ++ map_parts n ((z, r), p)) c.width-whole.ensures in
     collected-more (λ (ds : List (Saved × PartStates)). flat_map f ds) (flat_map-append f) all i
-    (parts c.args.pieces.now.items) (parts c.loop-i.pieces.items) (parts c.add_drawn.new.pieces.items)
+    (parts c.args.pieces.now.items) (parts c.loop-i.pieces.items) (parts c.add_map_zone.new.pieces.items)
     (f ((z, r), p)) lt (λ d at. drawn f zones logs.readings states i z r p d here read beside at)
     c.loop-i.invariant added
 
@@ -62,7 +62,7 @@ returns c =
     all-count zones logs c.logs-logs.result.now states c.parts-states.result.now c.min.result c.len.result
     c.min-count.result c.logs-logs.ensures c.parts-states.ensures c.min.ensures c.len.ensures.readings
     c.min-count.ensures in
-    let f : Saved × PartStates → List Part = drawn_parts c.args.in_table (width_of zones) in
+    let f : Saved × PartStates → List Part = map_parts (width_of zones) in
     collected-all (λ (ds : List (Saved × PartStates)). flat_map f ds) (flat_map-append f) all
     c.loop-i.i (parts c.args.pieces.now.items) (parts c.loop-i.pieces.items)
     (let past = c.loop-i-test.false in omega (arith, past, count)) c.loop-i.invariant
