@@ -200,16 +200,16 @@ of-picture : (zones : List Zone) (report : ReportHeld) → foreign_of (picture z
 of-picture zones report =
     let opening : List Part = region_opening (width_of zones) (length zones) in
     let spots : List Part = spots_parts (spots_of zones report.parts) in
-    let map : List Part = map_of zones report in
+    let drawn : List Part = map_of zones report in
     let rows : List Part = rows_after None (drawn_of zones report) in
     let key : List Part = Words KEY.now ∷ [] in
     let head : List Part = Words ZONES.now ∷ [] in
-    and-none (opening ++ map ++ key ++ spots ++ head ++ rows) (Words (codes "</table></div>\n") ∷ []) []
-    (and-none (opening ++ map ++ key ++ spots ++ head) rows []
-    (and-none (opening ++ map ++ key ++ spots) head []
-    (and-none (opening ++ map ++ key) spots []
-    (and-none (opening ++ map) key []
-    (and-none opening map [] refl (of-all zones report)) refl) (of-spots (spots_of zones report.parts))) refl)
+    and-none (opening ++ drawn ++ key ++ spots ++ head ++ rows) (Words (codes "</table></div>\n") ∷ []) []
+    (and-none (opening ++ drawn ++ key ++ spots ++ head) rows []
+    (and-none (opening ++ drawn ++ key ++ spots) head []
+    (and-none (opening ++ drawn ++ key) spots []
+    (and-none (opening ++ drawn) key []
+    (and-none opening drawn [] refl (of-all zones report)) refl) (of-spots (spots_of zones report.parts))) refl)
     (of-rows-after None (drawn_of zones report))) refl
 
 -- ---- a record has what people read of it
