@@ -86,5 +86,4 @@ footer{margin-top:2rem;border-top:1px solid var(--line);color:var(--dim)}\n\
 :root{color-scheme:light}body{max-width:none;padding:0;font-size:9pt}pre,td{font-size:7.5pt}.why{font-size:13pt}\n\
 nav{display:none}summary{list-style:none;break-after:avoid}h2{break-after:avoid}\n\
 tr,.log i,.log mark{break-inside:avoid}\n\
-.scroll{overflow:visible}.grid td{white-space:pre-wrap}\n\
-details::details-content{content-visibility:visible;block-size:auto}}\n";
+.scroll{overflow:visible}.grid td{white-space:pre-wrap}}\n";
