@@ -141,6 +141,21 @@ fn drawn_blocks(rt: HostRuntime) -> Result<(), Fail> {
     Ok(())
 }
 
+// Neighbours that are empty share a row, if they are of one kind.
+#[test]
+fn empty_zones(rt: HostRuntime) -> Result<(), Fail> {
+    for row in [
+        "<tr><th scope=\"row\">dump 1 to 2</th><td>empty</td><td class=\"n\">1024</td><td class=\"n\">1024 each</td>\
+<td class=\"n\">0</td><td class=\"n\">0</td><td class=\"n\">0</td><td class=\"n\">0</td></tr>\n",
+        "<tr><th scope=\"row\">console 0</th><td>empty</td><td class=\"n\">3072</td><td class=\"n\">1024</td>\
+<td class=\"n\">0</td><td class=\"n\">0</td><td class=\"n\">0</td><td class=\"n\">0</td></tr>\n",
+    ] {
+        assert!(rt; shows(rt, [NAMED, NONE, NONE, NONE], row)?, "{row}");
+    }
+    assert!(rt; !shows(rt, [NAMED, NONE, NAMED, NONE], " each</td>")?);
+    Ok(())
+}
+
 #[test]
 fn compressed_dumps(rt: HostRuntime) -> Result<(), Fail> {
     for (packed, record) in [
