@@ -49,7 +49,7 @@ use Rattle.report_html.specs.Pictures.{numbers_parts}
 use Rattle.report_html.specs.Pictures.{fitting_parts, label_parts, place_parts, zone_name, frame_parts, map_parts}
 use Rattle.report_html.specs.Pictures.{corrected_parts, header_parts, blocks_parts, run_parts, runs}
 use Rattle.report_html.specs.Pictures.{unused_parts, parity_parts, strip_parts, width_of, region_opening, drawn_of, map_of}
-use Rattle.report_html.specs.ZoneRows.{ZoneRow, joins, next_row, up_to, read_cells, name_parts, place_cells, zone_parts}
+use Rattle.report_html.specs.ZoneRows.{ZoneRow, is_joined, next_row, up_to, read_cells, name_parts, place_cells, zone_parts}
 use Rattle.report_html.specs.ZoneRows.{held_parts, done_parts, rows_after}
 use Rattle.report_html.specs.Before.{told_before, time_after, named_below, before_parts, before_bytes}
 use Rattle.report_html.specs.Facts.{when_parts, up_parts, bytes_parts, machine_parts, some_bytes, named_bytes, machine_bytes}
@@ -160,7 +160,7 @@ unfolding rows_after
 of-rows-after held [] = of-held held
 of-rows-after held (d ∷ ds) =
     and-none (done_parts held d) (rows_after (Some (next_row held d)) ds) []
-    (of-choice (joins held d) [] (held_parts held) refl (of-held held)) (of-rows-after (Some (next_row held d)) ds)
+    (of-choice (is_joined held d) [] (held_parts held) refl (of-held held)) (of-rows-after (Some (next_row held d)) ds)
 
 of-label : (z : Zone) (whole : ℕ) → foreign_of (label_parts z whole) ≡ []
 of-label z whole = of-choice (nat_lt (16 * z.size) whole) [] (fitting_parts z whole) refl refl

@@ -44,14 +44,20 @@ has_same_numbers r q =
     (r.words.start == q.words.start) && (r.words.size == q.words.size) && (r.corrected == q.corrected)
     && (r.bad == q.bad)
 
+abbrev pub are_both_empty : ZoneReading → ZoneReading → Bool
+are_both_empty r q = is_empty r.state && is_empty q.state && has_same_numbers r q
+
 abbrev pub are_empty_alike : Option ZoneReading → Option ZoneReading → Bool
 are_empty_alike None other = false
 are_empty_alike (Some r) None = false
-are_empty_alike (Some r) (Some q) = is_empty r.state && is_empty q.state && has_same_numbers r q
+are_empty_alike (Some r) (Some q) = are_both_empty r q
+
+abbrev pub is_unused : PartStates → Bool
+is_unused p = length p.blocks == 0
 
 -- no block of them is in use, and their headers read alike
 abbrev pub have_same_parts : PartStates → PartStates → Bool
-have_same_parts p q = is_alike p.header q.header && (length p.blocks == 0) && (length q.blocks == 0)
+have_same_parts p q = is_alike p.header q.header && is_unused p && is_unused q
 
 abbrev pub shares_row : Saved × PartStates → Saved × PartStates → Bool
 shares_row d e = is_same_form d.0.0 e.0.0 && are_empty_alike d.0.1 e.0.1 && have_same_parts d.1 e.1
@@ -60,9 +66,9 @@ abbrev pub row_of : Saved × PartStates → ZoneRow
 row_of d = record { first = d; last = d.0.0 }
 
 -- whether a zone joins the row that is held
-abbrev pub joins : Option ZoneRow → Saved × PartStates → Bool
-joins None d = false
-joins (Some w) d = shares_row w.first d
+abbrev pub is_joined : Option ZoneRow → Saved × PartStates → Bool
+is_joined None d = false
+is_joined (Some w) d = shares_row w.first d
 
 abbrev pub longer : Option ZoneRow → Saved × PartStates → ZoneRow
 longer None d = row_of d
@@ -70,7 +76,7 @@ longer (Some w) d = record { first = w.first; last = d.0.0 }
 
 -- the row that is held with one zone more
 abbrev pub next_row : Option ZoneRow → Saved × PartStates → ZoneRow
-next_row held d = if joins held d then longer held d else row_of d
+next_row held d = if is_joined held d then longer held d else row_of d
 
 -- ---- the table
 
@@ -116,7 +122,7 @@ held_parts (Some w) = zone_parts w
 
 -- the row that is held, if a zone does not join it
 abbrev pub done_parts : Option ZoneRow → Saved × PartStates → List Part
-done_parts held d = if joins held d then [] else held_parts held
+done_parts held d = if is_joined held d then [] else held_parts held
 
 -- the rows from the one that is held on
 unfoldable pub rows_after : Option ZoneRow → List (Saved × PartStates) → List Part

@@ -1,11 +1,12 @@
 // The table of zones, in which neighbours that are empty and read alike share a row.
-ghost use Rattle.std.specs.Prelude.{◌≡◌, ◌++◌, Some, None, OnOk};
+ghost use Rattle.std.specs.Prelude.{◌≡◌, ◌++◌, None, OnOk};
 ghost use Rattle.std.specs.Option.{option_copied, option_map};
 ghost use Rattle.report_html.specs.Pieces.{parts};
 ghost use Rattle.report_html.specs.Pictures.{drawn_of};
 ghost use Rattle.report_html.specs.ZoneRows.{kind_number as number_of, is_same_form as have_same_form, is_empty as is_empty_state};
-ghost use Rattle.report_html.specs.ZoneRows.{has_same_numbers as have_same_numbers, are_empty_alike as are_both_empty};
-ghost use Rattle.report_html.specs.ZoneRows.{have_same_parts as have_parts_alike, shares_row as share_row, joins as joins_row};
+ghost use Rattle.report_html.specs.ZoneRows.{has_same_numbers as have_same_numbers, are_both_empty as are_readings_empty};
+ghost use Rattle.report_html.specs.ZoneRows.{are_empty_alike as are_alike_empty, is_unused as has_no_block};
+ghost use Rattle.report_html.specs.ZoneRows.{have_same_parts as have_parts_alike, shares_row as share_row, is_joined as joins_row};
 ghost use Rattle.report_html.specs.ZoneRows.{row_of, longer as longer_row, next_row as row_next, reading_cells, unread_cells};
 ghost use Rattle.report_html.specs.ZoneRows.{read_cells, up_to, each_words, name_parts, place_cells, zone_parts};
 ghost use Rattle.report_html.specs.ZoneRows.{held_parts, done_parts, rows_after, zone_in, row_in};
@@ -16,7 +17,7 @@ use crate::pieces::{Piece, add};
 use crate::region::{add_zone_name, read_text};
 use crate::words::{CELL, STRIP};
 use prz_read::Reading;
-use region_report::{Report, ZoneParts};
+use region_report::{PartState, Report, ZoneParts};
 use std::alloc::AllocError;
 use zone_spec::{Kind, State, Zone};
 
@@ -67,25 +68,43 @@ fn has_same_numbers(reading: &Reading, other: &Reading) -> bool
         && reading.bad == other.bad
 }
 
+fn are_both_empty(reading: &Reading, other: &Reading) -> bool
+    ensures { result ≡ are_readings_empty reading.now other.now }
+{
+    is_empty(reading.state) && is_empty(other.state) && has_same_numbers(reading, other)
+}
+
 fn are_empty_alike(reading: Option<&Reading>, other: Option<&Reading>) -> bool
-    ensures { result ≡ are_both_empty (option_copied reading.entry) (option_copied other.entry) }
+    ensures { result ≡ are_alike_empty (option_copied reading.entry) (option_copied other.entry) }
 {
     match reading {
         Some(reading) => match other {
-            Some(other) => {
-                is_empty(reading.state) && is_empty(other.state) && has_same_numbers(reading, other)
-            }
+            Some(other) => are_both_empty(reading, other),
             None => false,
         },
         None => false,
     }
 }
 
+/// Whether no block of a zone is in use.
+fn is_unused(states: &ZoneParts) -> bool
+    ensures { result ≡ has_no_block states.now }
+{
+    let blocks = states.blocks.as_slice();
+    blocks.is_empty()
+}
+
+fn header_of(states: &ZoneParts) -> PartState
+    ensures { result ≡ states.now.header }
+{
+    states.header
+}
+
 /// Whether no block of two zones is in use, and their headers read alike.
 fn have_same_parts(states: &ZoneParts, other: &ZoneParts) -> bool
     ensures { result ≡ have_parts_alike states.now other.now }
 {
-    is_alike(states.header, other.header) && states.blocks.is_empty() && other.blocks.is_empty()
+    is_alike(header_of(states), header_of(other)) && is_unused(states) && is_unused(other)
 }
 
 fn shares_row(row: Row<'_>, next: Row<'_>) -> bool
