@@ -258,7 +258,11 @@ fn add_parity(pieces: &mut Vec<Piece<'_>>, zone: &Zone) -> Result<(), AllocError
 }
 
 /// Adds the bytes of a zone: its header, its blocks and its parity.
-fn add_strip(pieces: &mut Vec<Piece<'_>>, zone: &Zone, states: &ZoneParts) -> Result<(), AllocError>
+pub fn add_strip(
+    pieces: &mut Vec<Piece<'_>>,
+    zone: &Zone,
+    states: &ZoneParts,
+) -> Result<(), AllocError>
     ensures { OnOk result (parts pieces.new.items ≡ parts pieces.old.items ++ strip_parts zone.now states.now) }
 {
     let blocks = states.blocks.as_slice();
