@@ -1,5 +1,5 @@
 -- Each zone joins the row that is held, or begins the next one
-use Rattle.std.proofs.Common.{◌≡◌, ◌<◌, ◌∙◌, ◌++◌, ℕ, List, drop, length, get_or, ap, sym, arith, Some, None}
+use Rattle.std.proofs.Common.{◌≡◌, ◌<◌, ◌∙◌, ◌++◌, ◌+◌, ℕ, List, drop, length, get_or, ap, sym, arith, Some, None}
 use Rattle.std.specs.Prelude.{Option, slice_get}
 use Rattle.std.specs.List.{zip}
 use Rattle.std.specs.Option.{option_copied, option_map}
