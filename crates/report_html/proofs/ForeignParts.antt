@@ -442,7 +442,7 @@ of-death signature zones records t =
     let own : List (List ℕ) = some_bytes (uptime_of text t.death.telling) ++ context_bytes text t.death
     ++ some_bytes signature ++ machine_bytes (machine_of t (console_of records))
     ++ before_bytes (told_before name records) in
-    let first : foreign_of facts ≡ own = simp (both, of-when, of-up, of-fact, of-bytes, of-before) in
+    let first : foreign_of facts ≡ own = simp (both, of-when, of-up, of-fact, of-bytes, of-before, append-nil) in
     and-of (facts ++ teller_parts zones name words) (around_parts name text t.death) own (around_bytes text t.death)
     (and-none facts (teller_parts zones name words) own first (of-teller zones name words))
     (of-around name text t.death)
