@@ -423,17 +423,20 @@ struct oopsbox_report_answer {
  *
  * The layout is that of the tree's only ramoops node, where there is a tree; words count more than the node. Else it is
  * that of the words, if mem_size is one of them. Else it is looked for in the image, among those that agree with the
- * words. It allocates.
+ * words. Without a tree, words such as pstore_blk.kmsg_size=64 (in KiB) are of a storage of the kernel's pstore_blk; and
+ * without words too, an image with one of its dumps is such a storage. It allocates.
  *
  * OOPSBOX_DONE: the first answer->text bytes of text are the report, behind answer->hint bytes of lines on a layout that
- * was looked for, each with its newline: the layout's words, and those of another that explains as much.
+ * was looked for, each with its newline: the layout's words, and those of another that explains as much. Of a storage
+ * they are its sizes, that no dump is of a panic, and the zones at which the kernel's own listing fails.
  * OOPSBOX_UNLAID: the layout was looked for and none is taken. answer->fault is 1: none was found; 2: none explains the
  * image; 3: not all were tried. On 2 and 3 the first answer->text bytes of text are a line with the best.
  * OOPSBOX_ROOM: text_len is below answer->text; text is as it was. *answer is what it would be with room.
  * On all of these the rest of text is as it was.
  *
  * OOPSBOX_FAULT: *answer tells the fault (a word's: 1 unknown key, 2 twice, 3 no number; else word is 0: the layout's,
- * or 101 to 105, where block_size, ecc_dump, ecc_console, ecc_ftrace or ecc_pmsg is given without mem_size).
+ * or 101 to 105, where block_size, ecc_dump, ecc_console, ecc_ftrace or ecc_pmsg is given without mem_size; or 201 to
+ * 207: the image is no storage of the sizes that words give).
  * OOPSBOX_SHORT: the image has fewer bytes than answer->needed.
  * OOPSBOX_TREE: answer->fault is 1 to 13: the tree is broken; 14: it has no ramoops node; 15: it has several; 16: a word
  * cpus is wanted, since there is an ftrace zone for each processor. docs/MESSAGES.md lists them. On these three text is

@@ -249,6 +249,9 @@ def records(image, parameters):
 
 _FORMATS = ("text", "json", "html")
 _NO_MEM_SIZE = ("block_size", "ecc_dump", "ecc_console", "ecc_ftrace", "ecc_pmsg")
+_SIZES = ("it has fewer than 4096 bytes", "all sizes are 0", "it has no whole pages of 4096 bytes",
+          "a size is no multiple of 512", "its zones have no room", "an ftrace zone would have fewer than 12 bytes",
+          "no dump zone has room")
 _UNLAID = {1: "no layout was found", 2: "no layout explains it", 3: "not all layouts were tried"}
 _TREE = {14: "the device tree has no ramoops node", 15: "the device tree has several ramoops nodes",
          16: "cpus=N is wanted: there is an ftrace zone for each processor"}
@@ -257,6 +260,8 @@ _TREE = {14: "the device tree has no ramoops node", 15: "the device tree has sev
 def _why(status, answer, hint):
     if status == FAULT and answer.word:
         return "parameter fault %d at word %d" % (answer.fault, answer.word)
+    if status == FAULT and answer.fault > 200:
+        return "the kernel takes no such sizes: %s" % _SIZES[answer.fault - 201]
     if status == FAULT and answer.fault > 100:
         return "%s needs mem_size: a layout with it is not looked for" % _NO_MEM_SIZE[answer.fault - 101]
     if status == FAULT:
@@ -275,7 +280,8 @@ def report(image, words="", format="json", tree=b"", name="image"):
 
     Words are parameters, as "mem_size=65536 ecc=1". A device tree gives the layout where there is one; without it and
     without mem_size the layout is looked for in the image. The name stands for the file's path. Answers a Report: the
-    text, and as hint the lines on a layout that was looked for, both bytes.
+    text, and as hint the lines on a layout that was looked for, both bytes. Without words and tree an image with a dump of
+    the kernel's pstore_blk is a storage; with words as "pstore_blk.kmsg_size=64" any image is.
 
     Raises Error with status 3 if a word is faulty or there is no layout, 4 if the image is too short, 13 if the words
     or the name are no text or the format is none of the three, 17 if the layout was looked for and none is taken, 18 if

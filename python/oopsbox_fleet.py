@@ -5,8 +5,8 @@ A bag of images becomes a bag of rows, one of each image. Each row is made where
     >>> import dask.bag, glob, oopsbox_fleet
     >>> images = dask.bag.from_sequence(glob.glob("images/*"), partition_size=1000)
     >>> rows = oopsbox_fleet.rows(images, "mem_size=16384 ftrace_size=0 ecc=1")
-    >>> for count, died in oopsbox_fleet.deaths(rows):
-    ...     print(count, died)
+    >>> for count, signature in oopsbox_fleet.deaths(rows):
+    ...     print(count, signature)
 
 An image that cannot be reported is a row with its fault, and the others go on. If a worker dies, the engine has its
 part of the bag reported again by another one. A row is made of the image alone, so the rows are the same.
@@ -28,13 +28,14 @@ from oopsbox import report
 
 __all__ = ["Death", "Row", "deaths", "row", "rows"]
 
-#: What one image tells. `path` is its name. `died` is the line that tells why the machine died, `reason` why the kernel
-#: made that record ("Panic", "Oops", ..), and `time` when, in seconds since 1970. `functions` has the function that the
+#: What one image tells. `path` is its name. `died` is the line that tells why the machine died, `signature` what went
+#: wrong and in which function, without addresses and numbers, so that machines that die alike have the same one.
+#: `reason` is why the kernel made that record ("Panic", "Oops", ..), and `time` when, in seconds since 1970. `functions` has the function that the
 #: record names, and then those of its call trace, the innermost first. `zones_bad` counts the zones with parts that
 #: parity could not correct, and `corrected` the bytes that it did. What the image does not tell is None. `fault` is
 #: None, or why the image was not reported.
-Row = namedtuple("Row", "path died reason time functions zones_bad corrected fault")
-Death = namedtuple("Death", "count died")
+Row = namedtuple("Row", "path died signature reason time functions zones_bad corrected fault")
+Death = namedtuple("Death", "count signature")
 
 NOT_TOLD, NOT_REPORTED = "(no record tells why)", "(not reported)"
 _MOST = 1 << 24
@@ -56,10 +57,11 @@ def _told(path, line):
     corrected = sum(zone["corrected"] for zone in line["zones"])
     death = line["death"]
     if death is None:
-        return Row(path, None, None, None, [], bad, corrected, None)
+        return Row(path, None, None, None, None, [], bad, corrected, None)
     record = next(record for record in line["records"] if record["name"] == death["record"])
     time = record["time"] and record["time"]["seconds"] + record["time"]["microseconds"] / 1e6
-    return Row(path, death["line"], _reason(record["text"]), time, _functions(death), bad, corrected, None)
+    return Row(path, death["line"], line["signature"], _reason(record["text"]), time, _functions(death), bad, corrected,
+               None)
 
 
 def row(image, words=""):
@@ -77,7 +79,7 @@ def row(image, words=""):
                 content = file.read(_MOST)
         return _told(path, json.loads(report(content, words).text))
     except Exception as fault:  # whatever one image has, the others go on
-        return Row(path, None, None, None, [], None, None, "%s: %s" % (type(fault).__name__, fault))
+        return Row(path, None, None, None, None, [], None, None, "%s: %s" % (type(fault).__name__, fault))
 
 
 def rows(images, words=""):
@@ -85,17 +87,18 @@ def rows(images, words=""):
     return images.map(row, words)
 
 
-def _died(told):
-    return NOT_REPORTED if told.fault else told.died or NOT_TOLD
+def _signature(told):
+    return NOT_REPORTED if told.fault else told.signature or NOT_TOLD
 
 
 def deaths(told):
-    """How many died of what, the most frequent first, of a bag of rows or of any rows in memory."""
+    """How many died of what, by signature, the most frequent first, of a bag of rows or of any rows in memory."""
     if hasattr(told, "frequencies"):
-        counts = dict(told.map(_died).frequencies().compute())
+        counts = dict(told.map(_signature).frequencies().compute())
     else:
-        counts = Counter(map(_died, told))
-    return sorted((Death(count, died) for died, count in counts.items()), key=lambda death: (-death.count, death.died))
+        counts = Counter(map(_signature, told))
+    return sorted((Death(count, signature) for signature, count in counts.items()),
+                  key=lambda death: (-death.count, death.signature))
 
 
 def main(arguments):
@@ -112,8 +115,8 @@ def main(arguments):
     paths = [os.fsdecode(path) for path in sys.stdin.buffer.read().split(b"\n") if path]
     told = rows(dask.bag.from_sequence(paths), options.words) if paths else []
     if options.deaths:
-        for count, died in deaths(told):
-            print(count, died, sep="\t")
+        for count, signature in deaths(told):
+            print(count, signature, sep="\t")
     else:
         for one in told:
             print(json.dumps(one._asdict()))

@@ -9,7 +9,7 @@ _oopsreport()
             mapfile -t COMPREPLY < <(compgen -W "$keys" -- "$word")
             compopt -o nospace ;;
         --color) mapfile -t COMPREPLY < <(compgen -W "auto always never" -- "$word") ;;
-        --format) mapfile -t COMPREPLY < <(compgen -W "text json html" -- "$word") ;;
+        --format) mapfile -t COMPREPLY < <(compgen -W "text json html brief" -- "$word") ;;
         --cmdline | --kernel | --node | --lines | --at | --memory-at) COMPREPLY=() ;;
         --save)
             mapfile -t COMPREPLY < <(compgen -d -- "$word")
@@ -17,7 +17,7 @@ _oopsreport()
         *)
             if [[ $word == -* ]]; then
                 mapfile -t COMPREPLY < <(compgen -W "--param --cmdline --cmdline-file --kernel --dtb --node --mem-as-given --region --memory --at --memory-at
-                    --symbols --lines --color --format --json --html --save --help --version" -- "$word")
+                    --symbols --recursive --lines --color --format --json --html --brief --save --help --version" -- "$word")
             else
                 mapfile -t COMPREPLY < <(compgen -f -- "$word")
                 compopt -o filenames

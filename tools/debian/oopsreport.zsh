@@ -15,11 +15,13 @@ _arguments \
     '--at[the region at this place of the memory]:place:' \
     '--memory-at[the physical address of the first byte of the memory]:address:' \
     '--symbols[a System.map, for the functions of ftrace]:file:_files' \
+    '(-r --recursive)'{-r,--recursive}'[of a folder also the files in each folder below]' \
     '--lines[last lines of the newest dump]:number:' \
     '--color[colours of a text]:when:(auto always never)' \
-    '--format[what a report is made as]:format:(text json html)' \
+    '--format[what a report is made as]:format:(text json html brief)' \
     '--json[as --format json]' \
     '--html[as --format html]' \
+    '--brief[as --format brief]' \
     '--save[a folder for the records]:folder:_files -/' \
     '--help[print the options]' \
     '--version[print the version]' \

@@ -8,6 +8,8 @@ tools/fleet/drive.py sent SCHEDULER COUNT FOLDER ROWS
                       the same with the images sent to the workers from here
 tools/fleet/drive.py days ROWS ANSWER
                       compares the deaths of each day, as a database answers them, with those of the rows
+tools/fleet/drive.py alike ROWS
+                      fails unless the oopses at different addresses have one signature
 tools/fleet/drive.py files FOLDER TO
                       makes a file of each image of the first thousand, and prints their paths, and one that is missing
 tools/fleet/drive.py paths ONE ROWS
@@ -25,7 +27,7 @@ import time
 from collections import Counter
 
 import oopsbox_fleet
-from images import IN_A_FILE, WORDS, read_file
+from images import IN_A_FILE, PAGING, WORDS, read_file
 
 WAIT = 120
 
@@ -103,14 +105,23 @@ def lines_of(path):
 
 def days(rows, answer):
     """Whether a database counted as we do. Prints the first lines of its answer."""
-    told = [row for row in lines_of(rows) if row["died"] is not None and row["time"] is not None]
-    counts = Counter((day_of(row), row["died"]) for row in told if 0 <= row["time"] <= 4e9)
+    told = [row for row in lines_of(rows) if row["signature"] is not None and row["time"] is not None]
+    counts = Counter((day_of(row), row["signature"]) for row in told if 0 <= row["time"] <= 4e9)
     answered = lines_of(answer)
     for line in answered[:8]:
-        print("%s\t%d\t%s" % (line["day"], line["count"], line["died"]))
-    if counts != {(line["day"], line["died"]): line["count"] for line in answered}:
-        answers = {(line["day"], line["died"]): line["count"] for line in answered}
+        print("%s\t%d\t%s" % (line["day"], line["count"], line["signature"]))
+    answers = {(line["day"], line["signature"]): line["count"] for line in answered}
+    if counts != answers:
         sys.exit("drive: the database counts otherwise: %s" % sorted(counts.items() ^ answers.items())[:4])
+
+
+def alike(rows):
+    """Whether the oopses at different addresses have one signature, of those that are told without a bad part."""
+    whole = [row for row in lines_of(rows) if row["zones_bad"] == 0 and (row["died"] or "").startswith(PAGING)]
+    lines, signatures = {row["died"] for row in whole}, {row["signature"] for row in whole}
+    if len(lines) < 2 or len(signatures) != 1:
+        sys.exit("drive: %d lines have the signatures %s" % (len(lines), sorted(signatures)))
+    print("alike: %d lines have the signature %s" % (len(lines), signatures.pop()))
 
 
 def files(folder, to):
@@ -136,8 +147,8 @@ def paths(one, rows):
 
 def main(way, *arguments):
     """What it took, as a line."""
-    if way in ("days", "files", "paths"):
-        return {"days": days, "files": files, "paths": paths}[way](*arguments)
+    if way in ("days", "alike", "files", "paths"):
+        return {"days": days, "alike": alike, "files": files, "paths": paths}[way](*arguments)
     count, seconds = one(*arguments) if way == "one" else dask_run(way, *arguments)
     print("%s: %d images, %.1f s, %d a second" % (way, count, seconds, count / seconds))
 

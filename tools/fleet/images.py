@@ -18,12 +18,13 @@ IN_A_FILE, MACHINES = 1000, 10
 DAY, FIRST = 86400, 1764201600
 TRACE = ["CPU: 1 PID: 42 Comm: app Not tainted 6.1.0 #1", "RIP: 0010:do_work+0x1f/0x40", "Call Trace:",
          " run_work+0x1f/0x80", " kthread+0xd7/0x100"]
+PAGING = "Unable to handle kernel paging request at virtual address "
 DEATHS = [
     ("Panic", ["Kernel panic - not syncing: sysrq triggered crash"]),
     ("Panic", ["BUG: kernel NULL pointer dereference, address: 0000000000000010", *TRACE,
                "Kernel panic - not syncing: Fatal exception"]),
     ("Panic", ["Kernel panic - not syncing: Out of memory: system-wide panic_on_oom is enabled"]),
-    ("Oops", ["Unable to handle kernel paging request at virtual address ffff800012345678", *TRACE]),
+    ("Oops", [PAGING + "ffff80001234%04x", *TRACE]),
     ("Panic", ["watchdog: BUG: soft lockup - CPU#1 stuck for 22s! [app:42]",
                "Kernel panic - not syncing: softlockup: hung tasks"]),
     ("Oops", ["general protection fault, probably for non-canonical address 0xdead000000000100: 0000 [#1] SMP",
@@ -37,6 +38,7 @@ def machine(number):
     """The image of a machine that was used and then died."""
     used = oopsbox.run("make %d" % number, WORDS).image
     reason, lines = DEATHS[number % 31 % len(DEATHS)]
+    lines = [line % number if line.startswith(PAGING) else line for line in lines]
     text = "%s#1 Part1\n%s" % (reason, "".join("<4>[    3.%06d] %s\n" % (i, line) for i, line in enumerate(lines)))
     script = "boot\ndump %d %d D %s\n" % (FIRST + number % 7 * DAY + number, number, text.encode().hex())
     done = oopsbox.run("run", WORDS, used, script.encode())

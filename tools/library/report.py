@@ -49,7 +49,7 @@ def compare(path, words="", tree=None):
             assert not best or best[0].encode() in errors, (path, str(error), errors)
             counts[error.status] = counts.get(error.status, 0) + 1
             continue
-        told = (hint + text, b"") if form == "text" else (text, hint)
+        told = (text + hint, b"") if form == "text" else (text, hint)
         assert (status, output, errors) == (0,) + told, (path, words, form)
         counts[0] = counts.get(0, 0) + 1
 

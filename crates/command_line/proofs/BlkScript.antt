@@ -1,7 +1,8 @@
 -- How the stages of a script on the block store end its work
-use Rattle.std.proofs.Common.{◌≡◌, ℕ, ◌<◌, ◌≤◌, List, [], length, Option, Some, Result, Ok, Err, IfSome, refl, sym, ap}
+use Rattle.std.proofs.Common.{◌≡◌, ℕ, ◌<◌, ◌≤◌, List, [], length, Option, Some, Result, Ok, Err, IfSome, refl, ap}
 use Rattle.std.proofs.Common.{◌∙◌, arith, inl, inr}
 use Rattle.std.specs.Bool.{⊤}
+use Rattle.std.specs.Io.KnownBytes.{IsAtEnd}
 use Rattle.outside.specs.Outside.{Rose}
 use Rattle.blk_spec.specs.declared.BlkLayout.{BlkLayout}
 use Rattle.grammar_spec.specs.Lines.{script_of}
@@ -16,13 +17,13 @@ use Rattle.command_spec.specs.declared.Stop.{Stop}
 use Rattle.command_spec.specs.declared.Stop.TheVariants.{Memory, Short, ScriptFault, ImageFault, SinkFault, TooLong}
 use Rattle.command_spec.specs.declared.Stop.TheVariants.{BadLine, Refused}
 use Rattle.image_file.specs.Loading.{SizeStop}
-use Rattle.command_line.specs.Stages.{ScriptStop, ParseStop}
+use Rattle.command_line.specs.Stages.{ReadLines, ScriptStop}
 use Rattle.command_line.specs.Ended.{CausedAt, ScriptEnds, LinesEnded, LinesOrStopEnded, KeptBefore, LinesAsk, BlkEnds}
-use Rattle.command_line.proofs.ReadParts.{Read, read_of, room_of, unread_memory, unread_fault, unread_short}
+use Rattle.command_line.proofs.ReadParts.{script_read, room_of, unread_memory, unread_fault, unread_short}
 use Rattle.command_line.proofs.ReadParts.{read_memory, read_fault, read_long, read_bad, read_unput, read_unsaved}
 use Rattle.command_line.proofs.ReadParts.{read_refused, read_done}
 use Rattle.command_line.proofs.Script.{Quiet, nat_lt-true, nat_lt-false, quiet_memory, put_nothing}
-use Rattle.command_line.proofs.StageStops.{load_stops, script_stops, parse_stops}
+use Rattle.command_line.proofs.StageStops.{load_stops, script_stops}
 use Rattle.image_file.proofs.Sizes.{size_load}
 use Rattle.script_spec.specs.Playing.{LinesEnd, KeptUnless, BlkPlayCaused}
 use Rattle.script_spec.specs.declared.LineStop.{LineStop}
@@ -39,9 +40,9 @@ long_lines : (layout : BlkLayout) (bytes script : List ℕ) → layout.total ≤
     → blk_lines layout bytes script ≡ Err TooLong
 long_lines layout bytes script room h = rw (nat_lt-false room, nat_lt-true h) refl
 
-read_lines : (layout : BlkLayout) (bytes script : List ℕ) → layout.total ≤ length bytes → length script ≤ script_limit
-    → blk_lines layout bytes script ≡ lines_or_bad (script_of script)
-read_lines layout bytes script room h = rw (nat_lt-false room, nat_lt-false h) refl
+lines_read : (layout : BlkLayout) (bytes script : List ℕ) (r : Result (List Line) ℕ) → layout.total ≤ length bytes
+    → (length script ≤ script_limit) × (script_of script ≡ r) → blk_lines layout bytes script ≡ lines_or_bad r
+lines_read layout bytes script r room h = rw (nat_lt-false room, nat_lt-false h.0, h.1) refl
 
 -- ---- stops before the first line
 
@@ -135,39 +136,30 @@ module _ (layout : BlkLayout) (a b : Outside) (room : IfSome a.holds (λ bs. lay
     kept = q.holds;
   }
 
-  -- the script was not read
-  pub script_stopped : (s : Stop) (f g : ℕ) → Quiet a b → ScriptStop s a.left f g → BlkEnds layout a b (Err s)
-  script_stopped s f g q h = script_stops (λ t. BlkEnds layout a b (Err t)) a.left f g (memory_ended q)
+  stop_bad : (n : ℕ) → Quiet a b
+      → IsAtEnd b.left × IfSome a.left (λ bs. (length bs ≤ script_limit) × (script_of bs ≡ Err n))
+      → BlkEnds layout a b (Err (BadLine n))
+  stop_bad n q h = record {
+    whole = record {
+      told = λ bytes script t s.
+          let bad : (length script ≤ script_limit) × (script_of script ≡ Err n) = rw s at h.1 in
+          lines_as layout bytes (blk_lines layout bytes script) (Err (BadLine n)) a b (Err (BadLine n))
+          (lines_read layout bytes script (Err n) (room_of layout.total a.holds bytes room t) bad)
+          ((refl, put_nothing a b q, q.holds), tt);
+    };
+    read = read_bad layout.total a b room n q.given h;
+    kept = q.holds;
+  }
+
+  -- the script was not read, or has a bad line
+  pub script_stopped : (s : Stop) (f g : ℕ) → Quiet a b → ScriptStop s a.left b.left f g → BlkEnds layout a b (Err s)
+  script_stopped s f g q h = script_stops (λ t. BlkEnds layout a b (Err t)) a.left b.left f g (memory_ended q)
       (λ rose. record {
         whole = record { told = λ bytes script t l. script_lines layout bytes (blk_lines layout bytes script) a b q t };
         read = read_fault layout.total a b room q.given;
         kept = q.holds;
       })
-      (stop_long q) s h
-
-  module _ (text : List ℕ) (read : Read a b text) where
-    -- the lines of a script that was read
-    lines_read : (bytes script : List ℕ) (r : Result (List Line) ℕ) → script_of text ≡ r → a.holds ≡ Some bytes
-        → a.left ≡ Some script → blk_lines layout bytes script ≡ lines_or_bad r
-    lines_read bytes script r e t s =
-        let same : script ≡ text = sym (read_of a b text script read s) in
-        let few : length script ≤ script_limit = rw same read.few in
-        read_lines layout bytes script (room_of layout.total a.holds bytes room t) few ∙ rw (same, e) refl
-
-    stop_bad : (n : ℕ) → Quiet a b → script_of text ≡ Err n → BlkEnds layout a b (Err (BadLine n))
-    stop_bad n q h = record {
-      whole = record {
-        told = λ bytes script t s. lines_as layout bytes (blk_lines layout bytes script) (Err (BadLine n)) a b
-            (Err (BadLine n)) (lines_read bytes script (Err n) h t s) ((refl, put_nothing a b q, q.holds), tt);
-      };
-      read = read_bad layout.total a b room text read n h q.given;
-      kept = q.holds;
-    }
-
-    -- the script has a bad line
-    pub parse_stopped : (s : Stop) → Quiet a b → ParseStop s (script_of text) → BlkEnds layout a b (Err s)
-    parse_stopped s q h = parse_stops (λ t. BlkEnds layout a b (Err t)) (script_of text) (memory_ended q)
-        (λ n. stop_bad n q) s h
+      (stop_long q) (λ n. stop_bad n q) s h
 
 -- ---- lines
 
@@ -198,13 +190,13 @@ played_ends P g g' h h' done memory image sink refused (Err SinkFaultThere) c = 
 played_ends P g g' h h' done memory image sink refused (Err (RefusedThere n cause)) c = refused n cause
 
 -- lines end no other way than after their reading
-module _ (mem : ℕ) (a b : Outside) (room : IfSome a.holds (λ bs. mem ≤ length bs)) (text : List ℕ)
-    (read : Read a b text) (lines : List Line) (ok : script_of text ≡ Ok lines) where
+module _ (mem : ℕ) (a b : Outside) (room : IfSome a.holds (λ bs. mem ≤ length bs)) (lines : List Line)
+    (read : ReadLines lines a.left b.left) where
   played_read : (e : LinesEnd) (g g' h h' : ℕ) → BlkPlayCaused e g g' h h' → ScriptEnds mem a b (end_of e)
   played_read e g g' h h' c = played_ends (λ d. ScriptEnds mem a b d) g g' h h'
-      (λ u. read_done mem a b room text read lines ok) (read_memory mem a b room)
-      (λ rose. read_unsaved mem a b room text read) (λ rose. read_unput mem a b room text read)
-      (λ n cause. read_refused mem a b room text read lines ok n cause) e c
+      (λ u. read_done mem a b room lines read) (read_memory mem a b room)
+      (λ rose. read_unsaved mem a b room lines read) (λ rose. read_unput mem a b room lines read)
+      (λ n cause. read_refused mem a b room lines read n cause) e c
 
 played_kept : (e : LinesEnd) (g g' h h' : ℕ) (before now : Option (List ℕ)) → BlkPlayCaused e g g' h h'
     → KeptBefore before now (end_of e)
@@ -222,17 +214,18 @@ played_caused e f f' g0 g g' h0 h h' p q c = played_ends (λ d. CausedAt f f' g0
     (λ rose. omega (arith, p, rose)) (λ rose. omega (arith, q, rose)) (λ n cause. tt) e c
 
 -- lines were played on a store that holds what it held
-pub play_ended : (layout : BlkLayout) (a b : Outside) (text : List ℕ) (lines : List Line) (e : LinesEnd)
-    (holds : Option (List ℕ)) (g g' h h' : ℕ) → IfSome a.holds (λ bs. layout.total ≤ length bs) → Read a b text
-    → script_of text ≡ Ok lines → holds ≡ a.holds → BlkPlayCaused e g g' h h'
+pub play_ended : (layout : BlkLayout) (a b : Outside) (lines : List Line) (e : LinesEnd) (holds : Option (List ℕ))
+    (g g' h h' : ℕ) → IfSome a.holds (λ bs. layout.total ≤ length bs) → ReadLines lines a.left b.left
+    → holds ≡ a.holds → BlkPlayCaused e g g' h h'
     → ((bytes : List ℕ) → holds ≡ Some bytes → EndsAt e layout bytes lines a.given b.given b.holds)
     → BlkEnds layout a b (end_of e)
-play_ended layout a b text lines e holds g g' h h' room read ok same c p = record {
+play_ended layout a b lines e holds g g' h h' room read same c p = record {
   whole = record {
     told = λ bytes script t s. lines_as layout bytes (blk_lines layout bytes script) (Ok lines) a b (end_of e)
-        (lines_read layout a b room text read bytes script (Ok lines) ok t s)
+        (lines_read layout bytes script (Ok lines) (room_of layout.total a.holds bytes room t)
+        (script_read a.left b.left lines script read s))
         (lines_played e layout bytes lines a b (p bytes (same ∙ t)));
   };
-  read = played_read layout.total a b room text read lines ok e g g' h h' c;
+  read = played_read layout.total a b room lines read e g g' h h' c;
   kept = played_kept e g g' h h' a.holds b.holds c;
 }

@@ -1,8 +1,6 @@
 -- How the stages of a command that reads an image of a size and then a script end, as far as each is told alone
-use Rattle.std.proofs.Common.{◌≡◌, ℕ, ◌<◌, ◌≤◌, List, length, Option, Some, Ok, Err, IfSome, refl, sym, arith, inl, inr}
+use Rattle.std.proofs.Common.{◌≡◌, ℕ, ◌<◌, ◌≤◌, List, length, Option, Some, Ok, Err, IfSome, refl, arith, inl, inr}
 use Rattle.std.proofs.Common.{IsOk}
-use Rattle.std.specs.Prelude.{vec_len}
-use Rattle.std.specs.Global.{Vec}
 use Rattle.std.specs.Io.KnownBytes.{IsAtEnd}
 use Rattle.grammar_spec.specs.Lines.{script_of}
 use Rattle.grammar_spec.specs.declared.line.Line.{Line}
@@ -11,6 +9,7 @@ use Rattle.command_spec.specs.Answers.{Outside, IfHolds, NoScript}
 use Rattle.script_spec.specs.declared.Cause.{Cause}
 use Rattle.command_spec.specs.declared.Stop.TheVariants.{Memory, Short, ScriptFault, ImageFault, SinkFault, TooLong}
 use Rattle.command_spec.specs.declared.Stop.TheVariants.{BadLine, Refused}
+use Rattle.command_line.specs.Stages.{ReadLines}
 use Rattle.command_line.specs.Ended.{ScriptEnds}
 
 -- ---- before the script is read
@@ -45,31 +44,20 @@ unread_short mem a b has needed none quiet h = record {
 
 -- ---- after the image's size was found
 
--- a script that was read to its end
-pub record Read (a b : Outside) (text : List ℕ) : Type 0 where
-  pub read : IfSome a.left (λ bs. text ≡ bs)
-  pub few : length text ≤ script_limit
-  pub end : IsAtEnd b.left
-
--- the same of a vector
-pub read_whole : (a b : Outside) (v : Vec ℕ) → (vec_len v ≤ script_limit) × IfSome a.left (λ bs. v.items ≡ bs)
-    → IsAtEnd b.left → Read a b v.items
-read_whole a b v h end = record { read = h.1; few = omega (arith, h.0, v.ok); end = end }
-
-pub read_of : (a b : Outside) (text script : List ℕ) → Read a b text → a.left ≡ Some script → text ≡ script
-read_of a b text script r l = rw l at r.read
+-- the script that was read, where it is told
+pub script_read : (left rest : Option (List ℕ)) (lines : List Line) (script : List ℕ) → ReadLines lines left rest
+    → left ≡ Some script → (length script ≤ script_limit) × (script_of script ≡ Ok lines)
+script_read left rest lines script r l = rw l at r.read
 
 pub room_of : (n : ℕ) (holds : Option (List ℕ)) (bytes : List ℕ) → IfSome holds (λ bs. n ≤ length bs)
     → holds ≡ Some bytes → n ≤ length bytes
 room_of n holds bytes h t = rw t at h
 
 -- a good script
-pub good_script : (a b : Outside) (text : List ℕ) (lines : List Line) → Read a b text → script_of text ≡ Ok lines
-    → (script : List ℕ) → a.left ≡ Some script → (length script ≤ script_limit) × IsOk (script_of script)
-good_script a b text lines r e script s =
-    let same : script ≡ text = sym (read_of a b text script r s) in
-    let few : length script ≤ script_limit = rw same r.few in
-    (few, rw (same, e) refl)
+good_script : (left rest : Option (List ℕ)) (lines : List Line) → ReadLines lines left rest → (script : List ℕ)
+    → left ≡ Some script → (length script ≤ script_limit) × IsOk (script_of script)
+good_script left rest lines r script s =
+    let read = script_read left rest lines script r s in (read.0, rw read.1 refl)
 
 module _ (mem : ℕ) (a b : Outside) (room : IfSome a.holds (λ bs. mem ≤ length bs)) where
   -- the image is not too short
@@ -104,21 +92,20 @@ module _ (mem : ℕ) (a b : Outside) (room : IfSome a.holds (λ bs. mem ≤ leng
     used = quiet;
   }
 
-  module _ (text : List ℕ) (r : Read a b text) where
-    pub read_bad : (n : ℕ) → script_of text ≡ Err n → b.given ≡ a.given → ScriptEnds mem a b (Err (BadLine n))
-    read_bad n h quiet = record {
-      image = record { told = long_enough };
-      unread = unread;
-      script = record {
-        told = λ script s.
-            let same : script ≡ text = sym (read_of a b text script r s) in
-            let few : length script ≤ script_limit = rw same r.few in
-            let bad : script_of script ≡ Err n = rw same h in
-            (few, bad);
-      };
-      used = (r.end, quiet);
-    }
+  pub read_bad : (n : ℕ) → b.given ≡ a.given
+      → IsAtEnd b.left × IfSome a.left (λ bs. (length bs ≤ script_limit) × (script_of bs ≡ Err n))
+      → ScriptEnds mem a b (Err (BadLine n))
+  read_bad n quiet h = record {
+    image = record { told = long_enough };
+    unread = unread;
+    script = record {
+      told = λ script l.
+          let bad : (length script ≤ script_limit) × (script_of script ≡ Err n) = rw l at h.1 in bad;
+    };
+    used = (h.0, quiet);
+  }
 
+  module _ (lines : List Line) (r : ReadLines lines a.left b.left) where
     pub read_unput : ScriptEnds mem a b (Err SinkFault)
     read_unput = record {
       image = record { told = long_enough };
@@ -135,19 +122,18 @@ module _ (mem : ℕ) (a b : Outside) (room : IfSome a.holds (λ bs. mem ≤ leng
       used = inr r.end;
     }
 
-    module _ (lines : List Line) (ok : script_of text ≡ Ok lines) where
-      pub read_refused : (n : ℕ) (c : Cause) → ScriptEnds mem a b (Err (Refused n c))
-      read_refused n c = record {
-        image = record { told = long_enough };
-        unread = unread;
-        script = record { told = good_script a b text lines r ok };
-        used = r.end;
-      }
+    pub read_refused : (n : ℕ) (c : Cause) → ScriptEnds mem a b (Err (Refused n c))
+    read_refused n c = record {
+      image = record { told = long_enough };
+      unread = unread;
+      script = record { told = good_script a.left b.left lines r };
+      used = r.end;
+    }
 
-      pub read_done : ScriptEnds mem a b (Ok tt)
-      read_done = record {
-        image = record { told = long_enough };
-        unread = unread;
-        script = record { told = good_script a b text lines r ok };
-        used = r.end;
-      }
+    pub read_done : ScriptEnds mem a b (Ok tt)
+    read_done = record {
+      image = record { told = long_enough };
+      unread = unread;
+      script = record { told = good_script a.left b.left lines r };
+      used = r.end;
+    }

@@ -1,23 +1,23 @@
 -- How the stages of a command that reads an image and a script end it, whatever it wants of the lines
 use Rattle.std.proofs.Common.{◌≡◌, ℕ, ◌<◌, ◌≤◌, List, [], length, take, Option, Some, None, Result, Ok, Err, IfSome}
-use Rattle.std.proofs.Common.{refl, sym, ◌∙◌, arith, inl, inr, true, false, nat_lt}
+use Rattle.std.proofs.Common.{refl, ◌∙◌, arith, inl, inr, true, false, nat_lt}
 use Rattle.std.proofs.KnownBytes.{Appends-nil}
 use Rattle.std.proofs.lemmas.Bool.Decides.{nat_tests}
-use Rattle.std.specs.Io.KnownBytes.{Appends}
+use Rattle.std.specs.Io.KnownBytes.{Appends, IsAtEnd}
 use Rattle.grammar_spec.specs.Lines.{script_of}
 use Rattle.grammar_spec.specs.declared.line.Line.{Line}
 use Rattle.command_spec.specs.Ends.{End, status_of}
-use Rattle.command_spec.specs.Commands.{Run, RamPlan, Wanted, wanted, mem_of, stops, script_limit}
+use Rattle.command_spec.specs.Commands.{Run, RamPlan, RunsScript, class_of, Wanted, wanted, mem_of, stops, script_limit}
 use Rattle.command_spec.specs.Answers.{Outside, NoScript}
 use Rattle.command_spec.specs.PlanAnswers.{ram_statuses, IsAmong}
 use Rattle.command_spec.specs.declared.Stop.{Stop}
 use Rattle.command_spec.specs.declared.Stop.TheVariants.{Memory, Short, TooLong, BadLine}
 use Rattle.image_file.specs.Loading.{LoadStop}
-use Rattle.command_line.specs.Stages.{ScriptStop, ParseStop}
+use Rattle.command_line.specs.Stages.{ReadLines, ScriptStop}
 use Rattle.command_line.specs.Ended.{Ended, RunEnds, ScriptEnds, CausedAt, WrittenAt}
-use Rattle.command_line.proofs.ReadParts.{Read, read_of, unread_memory, unread_fault, unread_short, read_memory}
+use Rattle.command_line.proofs.ReadParts.{script_read, unread_memory, unread_fault, unread_short, read_memory}
 use Rattle.command_line.proofs.ReadParts.{read_fault, read_long, read_bad}
-use Rattle.command_line.proofs.StageStops.{load_stops, script_stops, parse_stops}
+use Rattle.command_line.proofs.StageStops.{load_stops, script_stops}
 use Rattle.command_line.proofs.Tool.{no_texts}
 
 pub nat_lt-true : {a b : ℕ} → a < b → nat_lt a b ≡ true
@@ -47,6 +47,7 @@ written_as w v a b e same h = rw same h
 
 -- a command that wants this of an image and of the lines of a script, and with the statuses of a script
 pub record IsScripted (plan : RamPlan) (want : List ℕ → Result (List Line) ℕ → Wanted) : Type 0 where
+  pub class : class_of plan.command ≡ RunsScript
   pub statuses : ram_statuses plan.command ≡ ram_statuses Run
   pub short : (bytes script : List ℕ) → length bytes < mem_of plan
       → wanted plan bytes script ≡ stops (Short (length bytes) (mem_of plan))
@@ -138,57 +139,53 @@ module _ (plan : RamPlan) (want : List ℕ → Result (List Line) ℕ → Wanted
       image_fault = inr (record { told = λ bytes script t s. tt });
     }
 
-    pub script_stopped : (s : Stop) (f g : ℕ) → Quiet a b → ScriptStop s a.left f g → RunEnds plan a b (Err s)
-    script_stopped s f g q h = script_stops (λ t. RunEnds plan a b (Err t)) a.left f g (out_of_memory q)
+    -- what is wanted of a script that is not too long
+    lines_wanted : (bytes script : List ℕ) (read : Result (List Line) ℕ) → a.holds ≡ Some bytes
+        → (length script ≤ script_limit) × (script_of script ≡ read) → wanted plan bytes script ≡ want image read
+    lines_wanted bytes script read t r =
+        let i = loaded_of plan a image bytes l t in is.lines bytes script i.0 r.0 ∙ rw (r.1, ← i.1) refl
+
+    stop_bad : (n : ℕ) → Quiet a b
+        → IsAtEnd b.left × IfSome a.left (λ bs. (length bs ≤ script_limit) × (script_of bs ≡ Err n))
+        → RunEnds plan a b (Err (BadLine n))
+    stop_bad n q h = record {
+      can = rw is.statuses refl;
+      whole = record {
+        told = λ bytes script t s.
+            let bad : (length script ≤ script_limit) × (script_of script ≡ Err n) = rw s at h.1 in
+            ended_as (wanted plan bytes script) (stops (BadLine n)) a b (Err (BadLine n))
+            (lines_wanted bytes script (Err n) t bad ∙ is.bad image n) (refl, put_nothing a b q, q.holds);
+      };
+      read = read_bad (mem_of plan) a b room n q.given h;
+      image_fault = inr (record { told = λ bytes script t s. tt });
+    }
+
+    pub script_stopped : (s : Stop) (f g : ℕ) → Quiet a b → ScriptStop s a.left b.left f g → RunEnds plan a b (Err s)
+    script_stopped s f g q h = script_stops (λ t. RunEnds plan a b (Err t)) a.left b.left f g (out_of_memory q)
         (λ rose. record {
           can = rw is.statuses refl;
           whole = record { told = λ bytes script t s. (q.given, q.holds) };
           read = read_fault (mem_of plan) a b room q.given;
           image_fault = inr (record { told = λ bytes script t s. tt });
         })
-        (stop_long q) s h
+        (stop_long q) (λ n. stop_bad n q) s h
 
-    module _ (text : List ℕ) (r : Read a b text) where
-      -- what is wanted of a script that was read
-      lines_wanted : (bytes script : List ℕ) (read : Result (List Line) ℕ) → script_of text ≡ read
-          → a.holds ≡ Some bytes → a.left ≡ Some script → wanted plan bytes script ≡ want image read
-      lines_wanted bytes script read e t s =
-          let i = loaded_of plan a image bytes l t in
-          let same : script ≡ text = sym (read_of a b text script r s) in
-          let few : length script ≤ script_limit = rw same r.few in
-          is.lines bytes script i.0 few ∙ rw (same, e, ← i.1) refl
-
-      stop_bad : (n : ℕ) → Quiet a b → script_of text ≡ Err n → RunEnds plan a b (Err (BadLine n))
-      stop_bad n q h = record {
-        can = rw is.statuses refl;
-        whole = record {
-          told = λ bytes script t s. ended_as (wanted plan bytes script) (stops (BadLine n)) a b (Err (BadLine n))
-              (lines_wanted bytes script (Err n) h t s ∙ is.bad image n) (refl, put_nothing a b q, q.holds);
-        };
-        read = read_bad (mem_of plan) a b room text r n h q.given;
-        image_fault = inr (record { told = λ bytes script t s. tt });
-      }
-
-      pub parse_stopped : (s : Stop) → Quiet a b → ParseStop s (script_of text) → RunEnds plan a b (Err s)
-      parse_stopped s q h = parse_stops (λ t. RunEnds plan a b (Err t)) (script_of text) (out_of_memory q)
-          (λ n. stop_bad n q) s h
-
-      -- the lines ended so
-      pub lines_ended : (lines : List Line) → script_of text ≡ Ok lines → (w : Wanted) → want image (Ok lines) ≡ w
-          → (e : End) → IsAmong (ram_statuses Run) (status_of e) → ScriptEnds (mem_of plan) a b e → Ended w a b e
-          → WrittenAt w a b e → RunEnds plan a b e
-      lines_ended lines ok w same e can read h written = record {
-        can = rw is.statuses can;
-        whole = record {
-          told = λ bytes script t s. ended_as (wanted plan bytes script) w a b e
-              (lines_wanted bytes script (Ok lines) ok t s ∙ same) h;
-        };
-        read = read;
-        image_fault = inr (record {
-          told = λ bytes script t s. written_as (wanted plan bytes script) w a b e
-              (lines_wanted bytes script (Ok lines) ok t s ∙ same) written;
-        });
-      }
+    -- the lines ended so
+    pub lines_ended : (lines : List Line) → ReadLines lines a.left b.left → (e : End)
+        → IsAmong (ram_statuses Run) (status_of e) → ScriptEnds (mem_of plan) a b e
+        → Ended (want image (Ok lines)) a b e → WrittenAt (want image (Ok lines)) a b e → RunEnds plan a b e
+    lines_ended lines r e can read h written = record {
+      can = rw is.statuses can;
+      whole = record {
+        told = λ bytes script t s. ended_as (wanted plan bytes script) (want image (Ok lines)) a b e
+            (lines_wanted bytes script (Ok lines) t (script_read a.left b.left lines script r s)) h;
+      };
+      read = read;
+      image_fault = inr (record {
+        told = λ bytes script t s. written_as (wanted plan bytes script) (want image (Ok lines)) a b e
+            (lines_wanted bytes script (Ok lines) t (script_read a.left b.left lines script r s)) written;
+      });
+    }
 
 -- ---- causes
 
@@ -197,12 +194,7 @@ pub load_caused : (s : Stop) (mem : ℕ) (holds : Option (List ℕ)) (f f' g g' 
 load_caused s mem holds f f' g g' h h' is =
     load_stops (λ t. CausedAt f f' g g' h h' (Err t)) mem holds g g' tt (λ rose. rose) (λ has needed size. tt) s is
 
-pub script_caused : (s : Stop) (left : Option (List ℕ)) (f f' g g' h h' : ℕ) → ScriptStop s left f f'
+pub script_caused : (s : Stop) (left rest : Option (List ℕ)) (f f' g g' h h' : ℕ) → ScriptStop s left rest f f'
     → CausedAt f f' g g' h h' (Err s)
-script_caused s left f f' g g' h h' is =
-    script_stops (λ t. CausedAt f f' g g' h h' (Err t)) left f f' tt (λ rose. rose) (λ long. tt) s is
-
-pub parse_caused : (s : Stop) (read : Result (List Line) ℕ) (f f' g g' h h' : ℕ) → ParseStop s read
-    → CausedAt f f' g g' h h' (Err s)
-parse_caused s read f f' g g' h h' is =
-    parse_stops (λ t. CausedAt f f' g g' h h' (Err t)) read tt (λ n bad. tt) s is
+script_caused s left rest f f' g g' h h' is = script_stops (λ t. CausedAt f f' g g' h h' (Err t)) left rest f f' tt
+    (λ rose. rose) (λ long. tt) (λ n bad. tt) s is

@@ -1,20 +1,22 @@
--- Why a stage of a run stops
-use Rattle.std.specs.Prelude.{◌≡◌, ℕ, ◌<◌, List, length, ⊤, Option, IfSome, Result, Err}
+-- What the reading of a script gives, and why it stops
+use Rattle.std.specs.Prelude.{◌≡◌, ℕ, ◌<◌, ◌≤◌, List, length, ⊤, Option, IfSome, Ok, Err}
+use Rattle.std.specs.Io.KnownBytes.{IsAtEnd}
 use Rattle.outside.specs.Outside.{Rose}
+use Rattle.grammar_spec.specs.Lines.{script_of}
 use Rattle.grammar_spec.specs.declared.line.Line.{Line}
 use Rattle.command_spec.specs.Commands.{script_limit}
 use Rattle.command_spec.specs.declared.Stop.{Stop}
 use Rattle.command_spec.specs.declared.Stop.TheVariants.{Memory, ScriptFault, TooLong, BadLine}
 
--- reading a script
-abbrev pub ScriptStop : Stop → Option (List ℕ) → ℕ → ℕ → Type 0
-ScriptStop Memory left before now = ⊤
-ScriptStop ScriptFault left before now = Rose before now
-ScriptStop TooLong left before now = IfSome left (λ bs. script_limit < length bs)
-ScriptStop s left before now = ⊥
+-- a script was read to its end, and has these lines
+pub record ReadLines (lines : List Line) (left rest : Option (List ℕ)) : Type 0 where
+  pub read : IfSome left (λ bs. (length bs ≤ script_limit) × (script_of bs ≡ Ok lines))
+  pub end : IsAtEnd rest
 
--- reading the lines of a script
-abbrev pub ParseStop : Stop → Result (List Line) ℕ → Type 0
-ParseStop Memory read = ⊤
-ParseStop (BadLine n) read = read ≡ Err n
-ParseStop s read = ⊥
+abbrev pub ScriptStop : Stop → Option (List ℕ) → Option (List ℕ) → ℕ → ℕ → Type 0
+ScriptStop Memory left rest before now = ⊤
+ScriptStop ScriptFault left rest before now = Rose before now
+ScriptStop TooLong left rest before now = IfSome left (λ bs. script_limit < length bs)
+ScriptStop (BadLine n) left rest before now =
+    IsAtEnd rest × IfSome left (λ bs. (length bs ≤ script_limit) × (script_of bs ≡ Err n))
+ScriptStop s left rest before now = ⊥

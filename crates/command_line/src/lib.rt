@@ -9,5 +9,5 @@ mod words;
 pub use command_spec::Stop;
 pub use ending::{end_of, finish, stop_of};
 pub use script_spec::Cause;
-pub use stages::{lines, read_script};
+pub use stages::read_lines;
 pub use words::{Plan, RamCommand, read_plan};

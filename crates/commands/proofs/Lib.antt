@@ -12,7 +12,6 @@ pub mod WorkEnds
 pub mod RunEnds
 pub mod WorkDone
 pub mod MoveEnds
-pub mod SharedEnds
 pub mod Shareable
 pub mod SharedReads
 pub mod DumpEnds

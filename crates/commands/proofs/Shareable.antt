@@ -1,7 +1,8 @@
 -- After a boot and a stop of any image the zone ftrace-0 can be shared where it has no parity
 use Rattle.std.proofs.Common.{◌≡◌, ℕ, zero, suc, ◌+◌, ◌-◌, ◌*◌, ◌<◌, Bool, true, false, ◌||◌, ◌==◌, cond, if◌then◌else◌}
 use Rattle.std.proofs.Common.{◌/◌, nat_lt, List, [], ◌∷◌, ◌++◌, map, length, take, drop, get_or, refl, sym, ap, ap₂}
-use Rattle.std.proofs.Common.{◌∙◌, subst, arith, Some, None, Ok, Err}
+use Rattle.std.proofs.Common.{◌∙◌, subst, arith, append-nil, Option, Some, None, Ok, Err}
+use Rattle.std.proofs.KnownBytes.{Appends-nil}
 use Rattle.std.specs.Prelude.{slice_get}
 use Rattle.std.specs.List.{AllByRecursion, range_with_len, position_or_len}
 use Rattle.std.proofs.lemmas.Bool.{lt-ltb, and_parts, ltb-false, ne_eqb}
@@ -45,7 +46,7 @@ use Rattle.script_spec.specs.declared.LineStop.TheVariants.{Refused}
 use Rattle.grammar_spec.specs.declared.line.Line.{Line}
 use Rattle.shared_ring.specs.Seen.{SharedSeen, IsLeftBy}
 use Rattle.shared_session.specs.Left.{just_opened, IsOpened, PlaysAll, StopsAt, Plays}
-use Rattle.commands.specs.Shares.{SharesLines}
+use Rattle.commands.specs.Scripts.{AllLeft, LinesLeave}
 use Rattle.script_spec.specs.SharedScripts.{shared_name, zone_at as zone_named, zone_to_share, lacks_plain_ftrace}
 use Rattle.script_spec.specs.SharedScripts.{shared_ran, shared_text}
 
@@ -265,15 +266,24 @@ module _ (zones : List Zone) (image last : List ℕ) (lines : List Line)
       ≡ wanted_ran (shared_ran z last lines) (shared_ran z last lines).refused
   ran_wanted = rw (at, ← is) refl
 
-  pub share_done : (v : SharedSeen) (text out : List ℕ) → PlaysAll z last lines v
+  pub share_done : (v : SharedSeen) (text out : List ℕ) (given : Option (List ℕ)) → PlaysAll z last lines v
       → ((h : History) → IsLeftBy h v → text ≡ shared_text h.zone (shared_zone h))
       → ((h : History) → IsLeftBy h v → out ≡ image_left h)
-      → wanted_shared_lines zones image (Ok lines) ≡ record { texts = text ∷ []; end = Ok tt; writes = Some out }
-  share_done v text out p shown closed =
+      → AllLeft (wanted_shared_lines zones image (Ok lines)) given given text out
+  share_done v text out given p shown closed =
       let r = shared_ran z last lines in
+      let w : wanted_shared_lines zones image (Ok lines)
+      ≡ record { texts = text ∷ []; end = Ok tt; writes = Some out } =
       ran_wanted ∙ ap (wanted_ran r) p.none
       ∙ ap₂ (λ (t o : List ℕ). record { texts = t ∷ []; end = Ok tt; writes = Some o })
-      (sym (shown r.history p.left)) (sym (closed r.history p.left))
+      (sym (shown r.history p.left)) (sym (closed r.history p.left)) in
+      rw w (record {
+        end = refl;
+        before = [];
+        put = Appends-nil given;
+        texts = append-nil text;
+        writes = refl;
+      })
 
   refused_as : (v : SharedSeen) (n : ℕ) (cause : Cause) → StopsAt z last lines v n cause
       → wanted_shared_lines zones image (Ok lines) ≡ stops (RefusedStop n cause)
@@ -281,7 +291,8 @@ module _ (zones : List Zone) (image last : List ℕ) (lines : List Line)
       let r = shared_ran z last lines in
       ran_wanted ∙ ap (wanted_ran r) s.refused ∙ ap (λ k. stops (RefusedStop k cause)) s.count
 
-  pub share_stopped : (stop : LineStop) (v : SharedSeen) → Plays z last lines v (Err stop)
-      → SharesLines (wanted_shared_lines zones image (Ok lines)) (Err (stop_of stop))
-  share_stopped (Refused n cause) v p = refused_as v n cause p
-  share_stopped stop v p = absurd p
+  pub share_stopped : (stop : LineStop) (v : SharedSeen) (given : Option (List ℕ)) (h : ℕ)
+      → Plays z last lines v (Err stop)
+      → LinesLeave (wanted_shared_lines zones image (Ok lines)) given given h h (Err (stop_of stop))
+  share_stopped (Refused n cause) v given h p = rw (refused_as v n cause p) (refl, Appends-nil given)
+  share_stopped stop v given h p = absurd p

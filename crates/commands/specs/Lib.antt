@@ -7,4 +7,4 @@ pub mod Headline
 pub mod Due
 pub mod Asked
 pub mod Runs
-pub mod Shares
+pub mod Scripts

@@ -7,7 +7,7 @@ ghost use Rattle.command_line.specs.Ended.{WorkDone};
 ghost use Rattle.commands.specs.Due.{PutsLines};
 
 use blk_session::play;
-use command_line::{Stop, end_of, lines, read_script};
+use command_line::{Stop, end_of, read_lines};
 use image_file::check_size;
 use outside::{Sink, Source, Store};
 use std::alloc::Global;
@@ -33,11 +33,7 @@ pub fn run_blk_script<S: Source, M: Store, O: Sink>(
         Ok(()) => {}
         Err(stop) => return Err(stop),
     }
-    let text = match read_script(alloc, script) {
-        Ok(text) => text,
-        Err(stop) => return Err(stop),
-    };
-    let lines = match lines(alloc, &text) {
+    let lines = match read_lines(alloc, script) {
         Ok(lines) => lines,
         Err(stop) => return Err(stop),
     };

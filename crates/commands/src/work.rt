@@ -13,10 +13,9 @@ use crate::blk_script::run_blk_script;
 use crate::images::{blank, show_layout};
 use crate::making::make;
 use crate::moving::move_image;
-use crate::ram_script::run_script;
 use crate::records::{erase, extract, list};
 use crate::salvaging::{rescue, salvage};
-use crate::sharing::run_shared_script;
+use crate::scripts::{Session, run_script};
 use command_line::{Plan, RamCommand, Stop, finish, read_plan};
 use crash_laws::later_boot_lists_crash;
 use outside::{Sink, Source, Store};
@@ -45,7 +44,7 @@ fn do_command<S: Source, M: Store, O: Sink>(
     ensures put { PutsBefore (ram_command_seen command.entry) (O.given out.old) (O.given out.new) result }
 {
     match command {
-        RamCommand::Run => run_script(alloc, layout, script, image, out),
+        RamCommand::Run => run_script(alloc, Session::Ram(layout), script, image, out),
         RamCommand::ListRecords => list(alloc, layout, image, out),
         RamCommand::Extract(name) => extract(alloc, layout, name, image, out),
         RamCommand::Erase(name) => erase(alloc, layout, name, image),
@@ -82,7 +81,7 @@ fn do_work<S: Source, M: Store, O: Sink>(
         Ok(Plan::Blk(layout)) => run_blk_script(alloc, layout, script, image, out),
         Ok(Plan::Move(from, to)) => move_image(alloc, from, to, image, out),
         Ok(Plan::Share(booted, layout)) => {
-            run_shared_script(alloc, booted, layout, script, image, out)
+            run_script(alloc, Session::Shared(booted, layout), script, image, out)
         }
         Err(stop) => Err(stop),
     }

@@ -4,6 +4,8 @@
 #[cfg(test)]
 mod compression_tests;
 #[cfg(test)]
+mod folder_files_tests;
+#[cfg(test)]
 mod gzip_tests;
 #[cfg(test)]
 mod text_log_tests;

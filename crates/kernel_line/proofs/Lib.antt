@@ -1,4 +1,4 @@
--- The lemmas on a line's words, one after another, and on its numbers. `word_end`, `kernel_words`, `add_layout_words`,
+-- The lemmas on a line's words, one after another, and on its numbers. `word_end`, `kernel_words`, `add_words`,
 -- `address` and `reserved_size` cite them, with the law on white space.
 mod Lines
 mod Plain

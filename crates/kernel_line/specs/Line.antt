@@ -1,11 +1,13 @@
 -- The words of a kernel's command line (lib/cmdline.c, next_arg; kernel/params.c, parse_args), and of these the ones
--- that say how ramoops lays its memory out (fs/pstore/ram.c, module_param)
+-- that say how ramoops lays its memory out (fs/pstore/ram.c, module_param), or pstore_blk a storage (fs/pstore/blk.c)
 use Rattle.std.specs.Prelude.{◌≡◌, ℕ, ◌+◌, ◌-◌, ◌%◌, Bool, true, false, not, ◌&&◌, ◌||◌, ◌==◌, nat_eq, nat_le}
 use Rattle.std.specs.Prelude.{if◌then◌else◌, List, [], ◌∷◌, ◌++◌, length, take, drop, map, remove, count_by, codes}
 use Rattle.std.specs.Prelude.{bytes_eq, IsUtf8, ⊤}
 use Rattle.std.specs.List.{filter, list_any, ends_with, onto_first, take_while, before_first, after_first}
 use Rattle.std.specs.List.{position_or_len}
 use Rattle.grammar_spec.specs.Numbers.{begins}
+use Rattle.kernel_line.specs.declared.layout.Module.{Module}
+use Rattle.kernel_line.specs.declared.layout.Module.TheVariants.{Ramoops, PstoreBlk}
 use Rattle.kernel_line.specs.declared.words.LineFault.{LineFault}
 use Rattle.kernel_line.specs.declared.words.LineFault.TheVariants.{Memory, OpenQuote, NoText}
 
@@ -58,23 +60,31 @@ abbrev pub underscored : List ℕ → List ℕ
 underscored word =
     map (λ b. if b == 45 then 95 else b) (before_first is_equals word) ++ drop (position_or_len is_equals word) word
 
+-- what stands before each parameter of a module
+abbrev pub prefix_of : Module → List ℕ
+prefix_of Ramoops = codes "ramoops."
+prefix_of PstoreBlk = codes "pstore_blk."
+
 -- the module's parameters that say nothing of the layout
-abbrev pub others : List (List ℕ)
-others = codes "mem_address" ∷ codes "mem_name" ∷ codes "mem_type" ∷ codes "max_reason" ∷ codes "dump_oops" ∷ []
+abbrev pub others : Module → List (List ℕ)
+others Ramoops =
+    codes "mem_address" ∷ codes "mem_name" ∷ codes "mem_type" ∷ codes "max_reason" ∷ codes "dump_oops" ∷ []
+others PstoreBlk = codes "blkdev" ∷ codes "best_effort" ∷ codes "max_reason" ∷ []
 
 -- whether a word has the module's prefix and gives none of the other parameters
-abbrev pub is_of_layout : List ℕ → Bool
-is_of_layout word =
-    begins (codes "ramoops.") word
-    && not (list_any (λ other. bytes_eq other (before_first is_equals (drop 8 word))) others)
+abbrev pub is_of : Module → List ℕ → Bool
+is_of which word =
+    begins (prefix_of which) word
+    && not (list_any (λ other. bytes_eq other (before_first is_equals (drop (length (prefix_of which)) word)))
+    (others which))
 
 -- the kernel's words, with `_` in their names
 unfoldable pub line_words : List ℕ → List (List ℕ)
 line_words line = map underscored (kernel_words line)
 
--- those of the layout
-unfoldable pub layout_words : List ℕ → List (List ℕ)
-layout_words line = filter is_of_layout (line_words line)
+-- those of a module's layout
+unfoldable pub layout_words : Module → List ℕ → List (List ℕ)
+layout_words which line = filter (is_of which) (line_words line)
 
 -- one of these words is no text
 pub record HasNoTextIn (words : List (List ℕ)) : Type 0 where
@@ -84,29 +94,20 @@ pub record HasNoTextIn (words : List (List ℕ)) : Type 0 where
   pub listed : words ≡ before ++ word ∷ behind
   pub no_text : ¬ (IsUtf8 word)
 
-abbrev pub HasNoText : List ℕ → Type 0
-HasNoText line = HasNoTextIn (layout_words line)
-
 -- why a word is not added
-abbrev pub IsWordFault : List ℕ → LineFault → Type 0
-IsWordFault word Memory = ⊤
-IsWordFault word OpenQuote = ⊥
-IsWordFault word NoText = (is_of_layout word ≡ true) × ¬ (IsUtf8 word)
+abbrev pub IsWordFault : Module → List ℕ → LineFault → Type 0
+IsWordFault which word Memory = ⊤
+IsWordFault which word OpenQuote = ⊥
+IsWordFault which word NoText = (is_of which word ≡ true) × ¬ (IsUtf8 word)
 
 -- why one of these words is not added
-abbrev pub IsFaultAmong : List (List ℕ) → LineFault → Type 0
-IsFaultAmong words Memory = ⊤
-IsFaultAmong words OpenQuote = ⊥
-IsFaultAmong words NoText = HasNoTextIn (filter is_of_layout words)
+abbrev pub IsFaultAmong : Module → List (List ℕ) → LineFault → Type 0
+IsFaultAmong which words Memory = ⊤
+IsFaultAmong which words OpenQuote = ⊥
+IsFaultAmong which words NoText = HasNoTextIn (filter (is_of which) words)
 
 -- why a line has no words
 abbrev pub IsUnread : List ℕ → LineFault → Type 0
 IsUnread line Memory = ⊤
 IsUnread line OpenQuote = is_closed line ≡ false
 IsUnread line NoText = ⊥
-
--- why a line is not read
-abbrev pub IsLineFault : List ℕ → LineFault → Type 0
-IsLineFault line Memory = ⊤
-IsLineFault line OpenQuote = is_closed line ≡ false
-IsLineFault line NoText = HasNoText line

@@ -1,14 +1,23 @@
-// The words of a kernel's command line that lay ramoops' memory out.
-ghost use Rattle.std.specs.Prelude.{◌≡◌, true, [], ◌∷◌, ◌++◌, IfErr, OnOk};
+// The words of a kernel's command line that lay out ramoops' memory, or a storage of pstore_blk.
+ghost use Rattle.std.specs.Prelude.{◌≡◌, [], ◌∷◌, ◌++◌, IfErr, OnOk};
 ghost use Rattle.std.specs.List.{filter};
 ghost use Rattle.grammar_spec.specs.Words.{texts};
-ghost use Rattle.kernel_line.specs.Line.{is_closed, is_of_layout, layout_words, IsWordFault, IsLineFault, IsFaultAmong};
+ghost use Rattle.kernel_line.specs.Line.{is_of as is_of_module, IsWordFault, IsFaultAmong};
 
-use crate::words::{LineFault, kernel_words, name_end};
+use crate::words::{LineFault, name_end};
 use outside::Bytes;
 use std::alloc::{AllocError, Global};
 
-/// The parameters of the module that say nothing of the layout.
+/// A module of the kernel that keeps the log.
+#[derive(Clone, Copy, Debug, PartialEq, Eq)]
+pub enum Module {
+    /// In memory.
+    Ramoops,
+    /// On a disk or on flash.
+    PstoreBlk,
+}
+
+/// The parameters of ramoops that say nothing of the layout.
 const OTHERS: [&[u8]; 5] = [
     b"mem_address",
     b"mem_name",
@@ -17,14 +26,36 @@ const OTHERS: [&[u8]; 5] = [
     b"dump_oops",
 ];
 
-fn is_of_layout(word: &[u8]) -> bool
-    ensures { result ≡ is_of_layout word.now }
+/// Those of pstore_blk.
+const STORAGE_OTHERS: [&[u8]; 3] = [b"blkdev", b"best_effort", b"max_reason"];
+
+fn is_of_ramoops(word: &[u8]) -> bool
+    ensures { result ≡ is_of_module Module.Ramoops word.now }
 {
     if !word.starts_with(b"ramoops.") {
         return false;
     }
     let parameter = &word[8..];
     !OTHERS.contains(&&parameter[..name_end(parameter)])
+}
+
+fn is_of_storage(word: &[u8]) -> bool
+    ensures { result ≡ is_of_module Module.PstoreBlk word.now }
+{
+    if !word.starts_with(b"pstore_blk.") {
+        return false;
+    }
+    let parameter = &word[11..];
+    !STORAGE_OTHERS.contains(&&parameter[..name_end(parameter)])
+}
+
+fn is_of(which: Module, word: &[u8]) -> bool
+    ensures { result ≡ is_of_module which word.now }
+{
+    match which {
+        Module::Ramoops => is_of_ramoops(word),
+        Module::PstoreBlk => is_of_storage(word),
+    }
 }
 
 fn push_text(alloc: Global, words: &mut Vec<String>, text: &str) -> Result<(), AllocError>
@@ -34,11 +65,17 @@ fn push_text(alloc: Global, words: &mut Vec<String>, text: &str) -> Result<(), A
     Ok(())
 }
 
-fn add_word(alloc: Global, words: &mut Vec<String>, word: &[u8]) -> Result<(), LineFault>
-    ensures ok { OnOk result (texts words.new.items ≡ texts words.old.items ++ filter is_of_layout (word.now ∷ [])) }
-    ensures err { IfErr result (IsWordFault word.now) }
+fn add_word(
+    alloc: Global,
+    which: Module,
+    words: &mut Vec<String>,
+    word: &[u8],
+) -> Result<(), LineFault>
+    ensures ok { OnOk result (texts words.new.items
+        ≡ texts words.old.items ++ filter (is_of_module which) (word.now ∷ [])) }
+    ensures err { IfErr result (IsWordFault which word.now) }
 {
-    if !is_of_layout(word) {
+    if !is_of(which, word) {
         return Ok(());
     }
     match std::str::from_utf8(word) {
@@ -47,29 +84,18 @@ fn add_word(alloc: Global, words: &mut Vec<String>, word: &[u8]) -> Result<(), L
     }
 }
 
-/// Adds those of the words that are of the layout.
-pub fn add_words(alloc: Global, words: &mut Vec<String>, read: &[Bytes]) -> Result<(), LineFault>
-    ensures ok { OnOk result (texts words.new.items ≡ texts words.old.items ++ filter is_of_layout read.now) }
-    ensures err { IfErr result (IsFaultAmong read.now) }
+/// Adds those of the words that are of a module's layout.
+pub fn add_words(
+    alloc: Global,
+    which: Module,
+    words: &mut Vec<String>,
+    read: &[Bytes],
+) -> Result<(), LineFault>
+    ensures ok { OnOk result (texts words.new.items ≡ texts words.old.items ++ filter (is_of_module which) read.now) }
+    ensures err { IfErr result (IsFaultAmong which read.now) }
 {
     for word in read {
-        add_word(alloc, words, word.as_slice())?;
+        add_word(alloc, which, words, word.as_slice())?;
     }
     Ok(())
-}
-
-/// Adds the words of a kernel's command line that say how ramoops lays its memory out: those that begin with
-/// `ramoops.`, but for `mem_address`, `mem_name`, `mem_type`, `max_reason` and `dump_oops`.
-#[tactic(auto, unfolding(crate::specs::Line::layout_words))]
-pub fn add_layout_words(
-    alloc: Global,
-    words: &mut Vec<String>,
-    line: &[u8],
-) -> Result<(), LineFault>
-    ensures ok { OnOk result (texts words.new.items ≡ texts words.old.items ++ layout_words line.now) }
-    ensures closed { OnOk result (is_closed line.now ≡ true) }
-    ensures err { IfErr result (IsLineFault line.now) }
-{
-    let read = kernel_words(alloc, line)?;
-    add_words(alloc, words, &read)
 }

@@ -2,10 +2,10 @@
 ghost use Rattle.std.specs.Prelude.{◌≡◌, ℕ, true, List, ◌++◌, IfOk, IfErr, OnOk};
 ghost use Rattle.std.specs.List.{filter};
 ghost use Rattle.grammar_spec.specs.Words.{texts};
-ghost use Rattle.kernel_line.specs.Line.{is_closed, is_of_layout, line_words, IsFaultAmong, IsUnread};
+ghost use Rattle.kernel_line.specs.Line.{is_closed, is_of, line_words, IsFaultAmong, IsUnread};
 ghost use Rattle.kernel_line.specs.Region.{address_in, reserved_in};
 
-use crate::layout::add_words;
+use crate::layout::{Module, add_words};
 use crate::region::{address, reserved_size};
 use crate::words::{LineFault, kernel_words};
 use outside::Bytes;
@@ -35,12 +35,19 @@ impl KernelLine {
         Ok(KernelLine { words })
     }
 
-    /// Adds those that say how ramoops lays its memory out.
-    pub fn add_layout_words(&self, alloc: Global, words: &mut Vec<String>) -> Result<(), LineFault>
-        ensures ok { OnOk result (texts words.new.items ≡ texts words.old.items ++ filter is_of_layout self.now) }
-        ensures err { IfErr result (IsFaultAmong self.now) }
+    /// Adds those that say how a module lays its memory, or a storage, out: those that begin with `ramoops.`, but for
+    /// `mem_address`, `mem_name`, `mem_type`, `max_reason` and `dump_oops`; or with `pstore_blk.`, but for `blkdev`,
+    /// `best_effort` and `max_reason`.
+    pub fn add_layout_words(
+        &self,
+        alloc: Global,
+        which: Module,
+        words: &mut Vec<String>,
+    ) -> Result<(), LineFault>
+        ensures ok { OnOk result (texts words.new.items ≡ texts words.old.items ++ filter (is_of which) self.now) }
+        ensures err { IfErr result (IsFaultAmong which self.now) }
     {
-        add_words(alloc, words, &self.words)
+        add_words(alloc, which, words, &self.words)
     }
 
     /// The address that they give the region, the last if they give several.

@@ -103,7 +103,7 @@ tags_done known image aim c s list e h = record {
 
 -- ---- over the words of a layout
 
-over_map : (known : Known) (len : ℕ) (P Q : Candidate → Type 0) → ((d : Candidate) → P d → Q d)
+pub over_map : (known : Known) (len : ℕ) (P Q : Candidate → Type 0) → ((d : Candidate) → P d → Q d)
     → (levels : List Level) (c : Candidate) → Over known len levels P c → Over known len levels Q c
 unfolding Over
 over_map known len P Q f [] c h = f c h

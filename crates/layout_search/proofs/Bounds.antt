@@ -80,6 +80,10 @@ marked_few image at (row ∷ rows) = omega (
   marked_few image (row_end row at) rows,
 )
 
+pub marked_within : (image : List ℕ) (row : Row) (at : ℕ) → marked_in image row at ≤ row.count
+unfolding marked_in
+marked_within image row at = omega (arith, count_range (λ i. is_mark image (at + i * row.size)) row.count)
+
 -- the faults by the rows
 pub faults_by_rows : (image : List ℕ) (p : Params) (rows : List Row)
     → rows_far image 0 rows + (marks image - rows_marked image 0 rows) ≤ faults image (zones_from p 0 rows)

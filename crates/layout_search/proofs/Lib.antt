@@ -13,3 +13,5 @@ pub mod Tags
 pub mod Members
 pub mod Usual
 pub mod SearchAnswers
+pub mod Slots
+pub mod Nearer

@@ -33,7 +33,7 @@ pub tally_faults : (image : List ℕ) (d : Candidate) → (tally_of image d).fau
 unfolding tally_of
 tally_faults image d = refl
 
-more_faults : (t u : Tally) (c d : Candidate) → u.faults < t.faults → is_before (key_by t c) (key_by u d) ≡ false
+pub more_faults : (t u : Tally) (c d : Candidate) → u.faults < t.faults → is_before (key_by t c) (key_by u d) ≡ false
 unfolding key_by
 more_faults t u c d h = front_decides t.faults u.faults _ _ h
 

@@ -1,10 +1,12 @@
 pub mod Laid
 pub mod Looks
+pub mod Sights
 pub mod Counted
 pub mod Seen
 pub mod Levels
 pub mod Walked
 pub mod Tried
+pub mod Narrowed
 pub mod Rows
 pub mod Placed
 pub mod Answers

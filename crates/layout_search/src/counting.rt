@@ -3,9 +3,11 @@ ghost use Rattle.std.specs.Prelude.{◌≡◌, ◌<◌, ◌≤◌, ◌+◌, ◌^
 ghost use Rattle.zone_spec.specs.declared.Zone.{Zone as ZoneValue};
 ghost use Rattle.layout_spec.specs.Order.{misses};
 ghost use Rattle.layout_search.specs.Looks.{IsInside};
+ghost use Rattle.layout_search.specs.Sights.{AreSeen};
 ghost use Rattle.layout_search.specs.Counted.{AreCounts, AreBelow, AreAtMost, added};
 
-use crate::looking::{Look, look_at};
+use crate::looking::Look;
+use crate::sights::{Sights, see};
 use zone_spec::Zone;
 
 /// What is counted over the zones of a layout: those that do not fit, those that do, with a log, with an odd one, the
@@ -45,11 +47,20 @@ fn with(counts: &Counts, look: Look, size: u32) -> Counts
     }
 }
 
-/// The counts over the zones, or `None` if more than `most` do not fit. `looked` grows by the headers that were looked at.
-pub fn count_zones(image: &[u8], zones: &[Zone], most: u64, looked: &mut u64) -> Option<Counts>
+/// The counts over the zones, or `None` if more than `most` do not fit. `looked` grows by what looking
+/// at their headers costs.
+pub fn count_zones(
+    image: &[u8],
+    zones: &[Zone],
+    most: u64,
+    sights: &mut Sights,
+    looked: &mut u64,
+) -> Option<Counts>
     requires inside { (i : ℕ) (z : ZoneValue) → slice_get zones.now i ≡ Some z → IsInside image.now z }
     requires few { length zones.now < 2 ^ 32 }
-    ensures { MatchOption result (most < misses image.now zones.now)
+    requires seen { AreSeen image.now sights.old }
+    ensures seen { AreSeen image.now sights.new }
+    ensures counts { MatchOption result (most < misses image.now zones.now)
         (λ counts. AreCounts image.now zones.now counts × AreBelow (2 ^ 62) counts) }
 {
     let mut counts = Counts::default();
@@ -57,8 +68,8 @@ pub fn count_zones(image: &[u8], zones: &[Zone], most: u64, looked: &mut u64) ->
         if counts.misses > most {
             return None;
         }
-        *looked = looked.saturating_add(1);
-        counts = with(&counts, look_at(image, zone), zone.size);
+        let look = see(image, zone, sights, looked);
+        counts = with(&counts, look, zone.size);
     }
     Some(counts)
 }

@@ -2,13 +2,13 @@
 ghost use Rattle.std.specs.Prelude.{◌≡◌, ℕ, List, IfOk};
 ghost use Rattle.layout_spec.specs.declared.Known.{Known as KnownValue};
 ghost use Rattle.layout_spec.specs.Family.{orders_for};
-ghost use Rattle.layout_search.specs.Levels.{next as next_of, having as having_as, values as values_of, order_of as order_of_number};
+ghost use Rattle.layout_search.specs.Levels.{next as next_of, having as having_as, values as values_of};
 ghost use Rattle.layout_search.specs.Walked.{counted as counted_as, nowhere as nowhere_at};
 ghost use Rattle.layout_search.specs.Placed.{AreLists};
 
 use crate::lists::Lists;
 use layout_spec::Candidate;
-use zone_spec::Order as ZoneOrder;
+use ramoops_layout::order_at;
 
 /// A word, but for the tag, which is tried last.
 #[derive(Clone, Copy)]
@@ -85,16 +85,6 @@ pub fn next(level: Level) -> Option<Level>
     }
 }
 
-fn order_of(n: u64) -> ZoneOrder
-    ensures { result ≡ order_of_number n }
-{
-    if n == 0 {
-        ZoneOrder::FtracePmsg
-    } else {
-        ZoneOrder::PmsgFtrace
-    }
-}
-
 /// The candidate with this word.
 pub fn having(c: &Candidate, level: Level, n: u64) -> Candidate
     ensures { result ≡ having_as level c.now n }
@@ -106,7 +96,7 @@ pub fn having(c: &Candidate, level: Level, n: u64) -> Candidate
         Level::Ftrace => Candidate { ftrace: n, ..*c },
         Level::Pmsg => Candidate { pmsg: n, ..*c },
         Level::Order => Candidate {
-            order: order_of(n),
+            order: order_at(u32::from(n != 0)),
             ..*c
         },
         Level::Cpus => Candidate { cpus: n, ..*c },

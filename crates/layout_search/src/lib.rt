@@ -14,6 +14,7 @@ mod refusing;
 mod rows;
 mod searching;
 mod seeing;
+mod sights;
 mod sweeping;
 mod tagging;
 mod trying;

@@ -1,14 +1,15 @@
 // The first zone of a candidate, before all are laid out.
-ghost use Rattle.std.specs.Prelude.{◌≡◌, ◌+◌, ◌*◌, ◌<◌, ◌≤◌, ◌^◌, ℕ, true, false, length, IfOk, Some, slice_get};
+ghost use Rattle.std.specs.Prelude.{◌≡◌, ◌+◌, ◌*◌, ◌<◌, ◌≤◌, ◌^◌, ℕ, true, false, length, IfOk, OnOk, Some, slice_get};
 ghost use Rattle.zone_spec.specs.declared.Zone.{Zone as ZoneValue};
 ghost use Rattle.layout_search.specs.Looks.{IsInside};
+ghost use Rattle.layout_search.specs.Sights.{AreSeen};
 ghost use Rattle.zone_spec.specs.declared.Kind.TheVariants.{Dump};
 ghost use Rattle.zone_spec.specs.Layout.{zone_at};
 ghost use Rattle.layout_spec.specs.Laid.{params_of};
 ghost use Rattle.layout_spec.specs.Marks.{fits};
 
 use crate::laying::{params, zones_of};
-use crate::looking::look_at;
+use crate::sights::{Sights, see};
 use layout_spec::Candidate;
 use ramoops_layout::rows::parity;
 use std::alloc::{AllocError, Global};
@@ -42,10 +43,19 @@ fn first_zone(c: &Candidate, size: u64) -> Zone
 }
 
 /// Whether the first of the dump zones of this size fits. If that is not easily told, it is said to.
-pub fn first_fits(alloc: Global, image: &[u8], c: &Candidate, size: u64) -> Result<bool, AllocError>
+pub fn first_fits(
+    alloc: Global,
+    image: &[u8],
+    c: &Candidate,
+    size: u64,
+    sights: &mut Sights,
+    looked: &mut u64,
+) -> Result<bool, AllocError>
     requires size { size ≤ 2 ^ 24 }
     requires within { size ≤ length image.now }
-    ensures { IfOk result (λ found. found ≡ false
+    requires seen { AreSeen image.now sights.old }
+    ensures seen { OnOk result (AreSeen image.now sights.new) }
+    ensures fits { IfOk result (λ found. found ≡ false
         → fits image.now (zone_at (params_of c.now) Dump size 0 (0 + 0 * size)) ≡ false) }
 {
     if c.parity > 127 {
@@ -62,16 +72,25 @@ pub fn first_fits(alloc: Global, image: &[u8], c: &Candidate, size: u64) -> Resu
     let Some(zones) = zones_of(alloc, &alone)? else {
         return Ok(true);
     };
-    Ok(is_first_or_unlike(image, &zones, &first_zone(c, size)))
+    let first = first_zone(c, size);
+    Ok(is_first_or_unlike(image, &zones, &first, sights, looked))
 }
 
 // Whether the zone fits, if it is the only one.
-fn is_first_or_unlike(image: &[u8], zones: &[Zone], zone: &Zone) -> bool
-    requires { (i : ℕ) (z : ZoneValue) → slice_get zones.now i ≡ Some z → IsInside image.now z }
-    ensures { result ≡ false → fits image.now zone.now ≡ false }
+fn is_first_or_unlike(
+    image: &[u8],
+    zones: &[Zone],
+    zone: &Zone,
+    sights: &mut Sights,
+    looked: &mut u64,
+) -> bool
+    requires seen { AreSeen image.now sights.old }
+    requires inside { (i : ℕ) (z : ZoneValue) → slice_get zones.now i ≡ Some z → IsInside image.now z }
+    ensures seen { AreSeen image.now sights.new }
+    ensures fits { result ≡ false → fits image.now zone.now ≡ false }
 {
     if zones.len() == 1 && zones[0] == *zone {
-        return look_at(image, &zones[0]).fits;
+        return see(image, &zones[0], sights, looked).fits;
     }
     true
 }

@@ -1,11 +1,12 @@
 // Which candidates cannot have few enough faults, before all their words are known.
-ghost use Rattle.std.specs.Prelude.{◌≡◌, ◌≤◌, ◌||◌, ◌==◌, nat_lt, true, false, length, ℕ, ◌<◌, ◌∷◌, [], IfOk, Some};
+ghost use Rattle.std.specs.Prelude.{◌≡◌, ◌≤◌, ◌||◌, ◌==◌, nat_lt, true, false, length, ℕ, ◌<◌, ◌∷◌, [], IfOk, OnOk, Some};
 ghost use Rattle.layout_spec.specs.declared.Known.{Known as KnownValue};
 ghost use Rattle.layout_spec.specs.Family.{is_told_once};
 ghost use Rattle.layout_search.specs.Levels.{after, next};
 ghost use Rattle.layout_search.specs.declared.levels.Level.TheVariants.{Order, Cpus, Parity};
 ghost use Rattle.layout_search.specs.Placed.{IsPlaced, IsPassed};
 ghost use Rattle.layout_search.specs.Rows.{IsRoomy};
+ghost use Rattle.layout_search.specs.Sights.{AreSeen};
 ghost use Rattle.layout_search.specs.Tried.{IsAim, Advances, SettledOver};
 ghost use Rattle.layout_search.specs.declared.progress.Progress.{Progress as ProgressValue};
 ghost use Rattle.layout_spec.specs.Laid.{zones_of};
@@ -16,6 +17,7 @@ use crate::peeking::first_fits;
 use crate::progress::{Aim, Effort, Progress};
 use crate::rows::{console_row, dump_memory, dump_row, ftrace_row, has_room, last_rows, pmsg_row};
 use crate::seeing::{may_begin, may_fit};
+use crate::sights::Sights;
 use layout_spec::{Candidate, Known};
 use std::alloc::{AllocError, Global};
 
@@ -31,12 +33,21 @@ pub fn spend(state: &mut Progress, work: u64)
 }
 
 /// Whether the first dump zone does not fit, and this alone makes too many faults.
-fn first_misses(alloc: Global, image: &[u8], aim: &Aim, c: &Candidate) -> Result<bool, AllocError>
+fn first_misses(
+    alloc: Global,
+    image: &[u8],
+    aim: &Aim,
+    c: &Candidate,
+    sights: &mut Sights,
+    looked: &mut u64,
+) -> Result<bool, AllocError>
     requires aim { IsAim image.now aim.now }
     requires roomy { IsRoomy c.now }
     requires some { 1 ≤ c.now.cpus }
     requires few { c.now.cpus ≤ 64 }
-    ensures { IfOk result (λ misses. misses ≡ true
+    requires seen { AreSeen image.now sights.old }
+    ensures seen { OnOk result (AreSeen image.now sights.new) }
+    ensures faults { IfOk result (λ misses. misses ≡ true
         → (t : ℕ) → aim.now.limit < faults image.now (zones_of (record c.now { tag = t }))) }
 {
     let dumps = dump_row(c);
@@ -47,7 +58,7 @@ fn first_misses(alloc: Global, image: &[u8], aim: &Aim, c: &Candidate) -> Result
     if aim.marks.saturating_sub(dumps.count + others) < aim.limit {
         return Ok(false);
     }
-    let fits = first_fits(alloc, image, c, dumps.size)?;
+    let fits = first_fits(alloc, image, c, dumps.size, sights, looked)?;
     Ok(!fits)
 }
 
@@ -109,8 +120,7 @@ fn sizes_may_hold(image: &[u8], known: &Known, aim: &Aim, c: &Candidate, looked:
     may_begin(image, aim.marks, aim.limit, dumps, console, 65, looked)
 }
 
-/// Whether a candidate may have few enough faults, by its words up to this one. `looked` grows by the places that were
-/// looked at.
+/// Whether a candidate may have few enough faults, by its words up to this one. `looked` grows by what looking costs.
 pub fn may_hold(
     alloc: Global,
     image: &[u8],
@@ -118,10 +128,13 @@ pub fn may_hold(
     level: Level,
     aim: &Aim,
     c: &Candidate,
+    sights: &mut Sights,
     looked: &mut u64,
 ) -> Result<bool, AllocError>
     requires aim { IsAim image.now aim.now }
+    requires seen { AreSeen image.now sights.old }
     requires passed { IsPassed (Some level) known.now (length image.now) c.now }
+    ensures seen { OnOk result (AreSeen image.now sights.new) }
     ensures passed { IfOk result (λ may. may ≡ true → IsPassed (next level) known.now (length image.now) c.now) }
     ensures refused { IfOk result (λ may. may ≡ false → (s : ProgressValue)
         → SettledOver known.now image.now aim.now (after level) c.now s) }
@@ -131,7 +144,7 @@ pub fn may_hold(
         Level::Pmsg => Ok(sizes_may_hold(image, known, aim, c, looked)),
         Level::Cpus => Ok(processors_may_hold(image, aim, c, looked)),
         Level::Parity => {
-            let misses = first_misses(alloc, image, aim, c)?;
+            let misses = first_misses(alloc, image, aim, c, sights, looked)?;
             Ok(!misses)
         }
     }

@@ -8,6 +8,7 @@ ghost use Rattle.layout_spec.specs.Family.{is_of_family, is_one_of};
 ghost use Rattle.layout_spec.specs.Marks.{marks as marks_of};
 ghost use Rattle.layout_spec.specs.Order.{key as key_of, faults, is_before as is_before_by};
 ghost use Rattle.layout_search.specs.Placed.{AreLists};
+ghost use Rattle.layout_search.specs.Sights.{AreSeen};
 ghost use Rattle.layout_search.specs.Tried.{IsKept, IsSound, Advances, IsBestSoFar, HasFew, HasMore, is_ahead};
 ghost use Rattle.layout_search.specs.declared.progress.Best.{Best as BestValue};
 ghost use Rattle.layout_search.specs.declared.progress.Effort.TheVariants.{All};
@@ -21,13 +22,14 @@ use crate::lists::{Lists, make_lists};
 use crate::marks::count_marks;
 use crate::order::is_before;
 use crate::progress::{Aim, Best, Effort, Progress};
+use crate::sights::{Sights, no_sights};
 use crate::sweeping::sweep;
 use layout_spec::{Candidate, Known, Tally};
 use std::alloc::{AllocError, Global};
 
-// How much work a search may do where it may give up: laying out a zone costs 64, a header without parity 4, one with
-// parity 512.
-const WORK: u64 = 1 << 30;
+// How much work a search may do where it may give up: looking at a place costs 1, laying out a zone 16, decoding a header
+// 8192.
+const WORK: u64 = 1 << 29;
 
 // No layout has more faults.
 const LAST: u64 = (1 << 62) + (1 << 32);
@@ -83,13 +85,16 @@ fn try_limit(
     lists: &Lists,
     marks: u64,
     limit: u64,
+    sights: &mut Sights,
     state: &mut Progress,
 ) -> Result<bool, AllocError>
+    requires seen { AreSeen image.now sights.old }
     requires marks { marks ≡ marks_of image.now }
     requires few { marks < 2 ^ 63 }
     requires limit { limit < 2 ^ 63 }
     requires lists { AreLists known.now (length image.now) lists.now }
     requires sound { IsSound known.now image.now None state.old.best }
+    ensures seen { OnOk result (AreSeen image.now sights.new) }
     ensures sound { OnOk result (IsSound known.now image.now None state.new.best) }
     ensures advances { OnOk result (Advances state.old state.new) }
     ensures first { IfOk result (λ done. done ≡ true → 0 < state.new.work → (d : CandidateValue)
@@ -102,7 +107,7 @@ fn try_limit(
         limit,
         besides: None,
     };
-    sweep(alloc, image, known, lists, &aim, state)?;
+    sweep(alloc, image, known, lists, &aim, sights, state)?;
     state.limit = limit;
     Ok(is_done(&state.best, limit))
 }
@@ -114,14 +119,17 @@ fn find_some(
     known: &Known,
     lists: &Lists,
     marks: u64,
+    sights: &mut Sights,
 ) -> Result<Option<Best>, AllocError>
+    requires seen { AreSeen image.now sights.old }
     requires marks { marks ≡ marks_of image.now }
     requires few { marks < 2 ^ 62 }
     requires lists { AreLists known.now (length image.now) lists.now }
-    ensures { IfOk result (λ best. MatchOption best (IsEmpty known.now image.now) (IsKept known.now image.now None)) }
+    ensures seen { OnOk result (AreSeen image.now sights.new) }
+    ensures some { IfOk result (λ best. MatchOption best (IsEmpty known.now image.now) (IsKept known.now image.now None)) }
 {
     let mut state = begin(None, Effort::First, 1);
-    try_limit(alloc, image, known, lists, marks, LAST, &mut state)?;
+    try_limit(alloc, image, known, lists, marks, LAST, sights, &mut state)?;
     Ok(state.best)
 }
 
@@ -132,12 +140,15 @@ fn find_faulty(
     known: &Known,
     lists: &Lists,
     marks: u64,
+    sights: &mut Sights,
     state: &mut Progress,
 ) -> Result<(), AllocError>
+    requires seen { AreSeen image.now sights.old }
     requires marks { marks ≡ marks_of image.now }
     requires few { marks < 2 ^ 62 }
     requires lists { AreLists known.now (length image.now) lists.now }
     requires sound { IsSound known.now image.now None state.old.best }
+    ensures seen { OnOk result (AreSeen image.now sights.new) }
     ensures sound { OnOk result (IsSound known.now image.now None state.new.best) }
     ensures advances { OnOk result (Advances state.old state.new) }
     ensures first { OnOk result (0 < state.new.work → (d : CandidateValue) → is_of_family known.now image.now d ≡ true
@@ -146,7 +157,7 @@ fn find_faulty(
 {
     let mut limit = 3;
     while limit < LAST {
-        if try_limit(alloc, image, known, lists, marks, limit, state)? {
+        if try_limit(alloc, image, known, lists, marks, limit, sights, state)? {
             return Ok(());
         }
         if state.work == 0 {
@@ -154,7 +165,7 @@ fn find_faulty(
         }
         limit = LAST.min(2 * limit + 1);
     }
-    try_limit(alloc, image, known, lists, marks, LAST, state)?;
+    try_limit(alloc, image, known, lists, marks, LAST, sights, state)?;
     Ok(())
 }
 
@@ -187,11 +198,14 @@ fn find_first(
     lists: &Lists,
     marks: u64,
     some: Best,
+    sights: &mut Sights,
 ) -> Result<Progress, AllocError>
+    requires seen { AreSeen image.now sights.old }
     requires marks { marks ≡ marks_of image.now }
     requires few { marks < 2 ^ 62 }
     requires lists { AreLists known.now (length image.now) lists.now }
     requires sound { IsKept known.now image.now None some }
+    ensures seen { OnOk result (AreSeen image.now sights.new) }
     ensures sound { IfOk result (λ state. IsSound known.now image.now None state.best) }
     ensures some { IfOk result (λ state. state.best ≢ None) }
     ensures first { IfOk result (λ state. 0 < state.work → (d : CandidateValue) → is_of_family known.now image.now d ≡ true
@@ -200,14 +214,14 @@ fn find_first(
     ensures so_far { IfOk result (IsBestSoFar known.now image.now) }
 {
     let mut state = begin(Some(some), Effort::All, WORK);
-    if try_limit(alloc, image, known, lists, marks, 0, &mut state)? {
+    if try_limit(alloc, image, known, lists, marks, 0, sights, &mut state)? {
         return Ok(state);
     }
-    if try_limit(alloc, image, known, lists, marks, 1, &mut state)? {
+    if try_limit(alloc, image, known, lists, marks, 1, sights, &mut state)? {
         return Ok(state);
     }
     let mut rest = begin(state.best, effort_for(known), WORK);
-    find_faulty(alloc, image, known, lists, marks, &mut rest)?;
+    find_faulty(alloc, image, known, lists, marks, sights, &mut rest)?;
     Ok(rest)
 }
 
@@ -232,7 +246,9 @@ fn find_rival(
     marks: u64,
     best: &Best,
     work: u64,
+    sights: &mut Sights,
 ) -> Result<Progress, AllocError>
+    requires seen { AreSeen image.now sights.old }
     requires marks { marks ≡ marks_of image.now }
     requires few { marks < 2 ^ 62 }
     requires lists { AreLists known.now (length image.now) lists.now }
@@ -240,6 +256,7 @@ fn find_rival(
     requires first { (d : CandidateValue) → is_of_family known.now image.now d ≡ true
         → is_ahead (key_of image.now d) (Some best.now) ≡ false }
     requires work { 0 < work }
+    ensures seen { OnOk result (AreSeen image.now sights.new) }
     ensures sound { IfOk result (λ state. IsSound known.now image.now (Some best.now.candidate) state.best) }
     ensures settled { IfOk result (λ state. 0 < state.work → (d : CandidateValue)
         → is_of_family known.now image.now d ≡ true → best.now.candidate ≢ d
@@ -253,7 +270,7 @@ fn find_rival(
         limit: best.tally.faults,
         besides: Some(best.candidate),
     };
-    sweep(alloc, image, known, lists, &aim, &mut state)?;
+    sweep(alloc, image, known, lists, &aim, sights, &mut state)?;
     Ok(state)
 }
 
@@ -290,11 +307,14 @@ fn try_usual(
     marks: u64,
     parity: u64,
     best: Best,
+    sights: &mut Sights,
 ) -> Result<Best, AllocError>
+    requires seen { AreSeen image.now sights.old }
     requires marks { marks ≡ marks_of image.now }
     requires few { marks < 2 ^ 62 }
     requires parity { is_one_of parity (0 ∷ 16 ∷ []) ≡ true }
     requires kept { IsKept known.now image.now None best }
+    ensures seen { OnOk result (AreSeen image.now sights.new) }
     ensures kept { IfOk result (IsKept known.now image.now None) }
     ensures first { IfOk result (λ b. (k : List ℕ) → is_before_by k best.key ≡ false → is_before_by k b.key ≡ false) }
     ensures usual { IfOk result (λ b. (d : CandidateValue) → is_of_family (usual_by known.now parity) image.now d ≡ true
@@ -308,7 +328,7 @@ fn try_usual(
         besides: None,
     };
     let mut state = begin(None, Effort::All, 1);
-    sweep(alloc, image, &usual, &lists, &aim, &mut state)?;
+    sweep(alloc, image, &usual, &lists, &aim, sights, &mut state)?;
     match state.best {
         Some(other) => Ok(first_of(other, best)),
         None => Ok(best),
@@ -322,10 +342,13 @@ fn try_all_usual(
     known: &Known,
     marks: u64,
     best: Best,
+    sights: &mut Sights,
 ) -> Result<Best, AllocError>
+    requires seen { AreSeen image.now sights.old }
     requires marks { marks ≡ marks_of image.now }
     requires few { marks < 2 ^ 62 }
     requires kept { IsKept known.now image.now None best }
+    ensures seen { OnOk result (AreSeen image.now sights.new) }
     ensures kept { IfOk result (IsKept known.now image.now None) }
     ensures first { IfOk result (λ b. (k : List ℕ) → is_before_by k best.key ≡ false → is_before_by k b.key ≡ false) }
     ensures usual { IfOk result (λ b. length image.now ≤ 2 ^ 20 → IsBestUsual known.now image.now b.candidate) }
@@ -333,8 +356,8 @@ fn try_all_usual(
     if image.len() > SMALL {
         return Ok(best);
     }
-    let bare = try_usual(alloc, image, known, marks, 0, best)?;
-    try_usual(alloc, image, known, marks, 16, bare)
+    let bare = try_usual(alloc, image, known, marks, 0, best, sights)?;
+    try_usual(alloc, image, known, marks, 16, bare, sights)
 }
 
 /// Whether there is any other layout.
@@ -345,7 +368,9 @@ fn has_other(
     lists: &Lists,
     marks: u64,
     best: &Best,
+    sights: &mut Sights,
 ) -> Result<bool, AllocError>
+    requires seen { AreSeen image.now sights.old }
     requires marks { marks ≡ marks_of image.now }
     requires few { marks < 2 ^ 62 }
     requires lists { AreLists known.now (length image.now) lists.now }
@@ -359,7 +384,7 @@ fn has_other(
         limit: LAST,
         besides: Some(best.candidate),
     };
-    sweep(alloc, image, known, lists, &aim, &mut state)?;
+    sweep(alloc, image, known, lists, &aim, sights, &mut state)?;
     Ok(state.best.is_some())
 }
 
@@ -371,24 +396,34 @@ pub fn search(alloc: Global, image: &[u8], known: &Known) -> Result<Option<Found
 {
     let lists = make_lists(alloc, known, image.len() as u64)?;
     let marks = count_marks(image);
-    let Some(some) = find_some(alloc, image, known, &lists, marks)? else {
+    let mut sights = no_sights(alloc, image.len())?;
+    let Some(some) = find_some(alloc, image, known, &lists, marks, &mut sights)? else {
         return Ok(None);
     };
-    let state = find_first(alloc, image, known, &lists, marks, some)?;
+    let state = find_first(alloc, image, known, &lists, marks, some, &mut sights)?;
     let Some(best) = state.best else {
         return Ok(None);
     };
     if state.work == 0 {
-        let best = try_all_usual(alloc, image, known, marks, best)?;
-        let other = has_other(alloc, image, known, &lists, marks, &best)?;
+        let best = try_all_usual(alloc, image, known, marks, best, &mut sights)?;
+        let other = has_other(alloc, image, known, &lists, marks, &best, &mut sights)?;
         return Ok(Some(answer(&best, None, !other, &state)));
     }
-    let others = find_rival(alloc, image, known, &lists, marks, &best, state.work)?;
+    let others = find_rival(
+        alloc,
+        image,
+        known,
+        &lists,
+        marks,
+        &best,
+        state.work,
+        &mut sights,
+    )?;
     let rival = candidate_of(&others.best);
     if others.work > 0 {
         return Ok(Some(answer(&best, rival, true, &state)));
     }
-    let other = has_other(alloc, image, known, &lists, marks, &best)?;
+    let other = has_other(alloc, image, known, &lists, marks, &best, &mut sights)?;
     Ok(Some(answer(&best, rival, !other, &state)))
 }
 

@@ -143,6 +143,10 @@ pub fn may_fit(
     let Some(two) = see(image, last, end_of(next, third), limit, one, looked) else {
         return false;
     };
+    // with a mark at each of the others there would still be too many
+    if marks + two.far > limit + two.marked + dumps.count + console.count {
+        return false;
+    }
     let Some(three) = see(image, dumps, 0, limit, two, looked) else {
         return false;
     };

@@ -3,17 +3,33 @@ ghost use Rattle.std.specs.Prelude.{◌≡◌, ◌<◌, true, length, None, IfOk
 ghost use Rattle.layout_spec.specs.declared.Candidate.{Candidate as CandidateValue};
 ghost use Rattle.layout_search.specs.Levels.{Over, IsListed, levels_from};
 ghost use Rattle.layout_search.specs.Placed.{IsPassed, AreLists};
+ghost use Rattle.layout_search.specs.Sights.{AreSeen};
+ghost use Rattle.layout_search.specs.Narrowed.{IsNarrowed};
 ghost use Rattle.layout_search.specs.Tried.{IsAim, IsSound, Advances, IsSettled, SettledOver, SettledBefore};
 ghost use Rattle.layout_search.specs.Walked.{is_walked, all_levels};
 
 use crate::levels::{Level, Reached, counted, having, next, nowhere, values};
 use crate::lists::Lists;
-use crate::progress::{Aim, Progress};
+use crate::progress::{Aim, Best, Progress};
 use crate::refusing::{may_hold, spend};
+use crate::sights::Sights;
 use crate::tagging::try_tags;
 use layout_spec::{Candidate, Known};
 use std::alloc::{AllocError, Global};
 use zone_spec::Order;
+
+// The same aim, but for layouts with more faults than the best so far: none of those comes before it.
+fn narrowed(aim: &Aim, best: &Option<Best>) -> Aim
+    ensures { IsNarrowed aim.now best.now result }
+{
+    match best {
+        Some(best) => Aim {
+            limit: aim.limit.min(best.tally.faults),
+            ..*aim
+        },
+        None => *aim,
+    }
+}
 
 /// Tries a candidate with each value of this word and of those after it, and with each tag. Tells what it reached if
 /// it ended before.
@@ -25,6 +41,7 @@ fn walk(
     level: Option<Level>,
     aim: &Aim,
     c: &Candidate,
+    sights: &mut Sights,
     state: &mut Progress,
 ) -> Result<Option<Reached>, AllocError>
     requires aim { IsAim image.now aim.now }
@@ -33,6 +50,8 @@ fn walk(
         c.now }
     requires passed { IsPassed level known.now (length image.now) c.now }
     requires sound { IsSound known.now image.now aim.now.besides state.old.best }
+    requires seen { AreSeen image.now sights.old }
+    ensures seen { OnOk result (AreSeen image.now sights.new) }
     ensures advances { OnOk result (Advances state.old state.new) }
     ensures settled { IfOk result (λ stop. MatchOption stop
         (SettledOver known.now image.now aim.now (levels_from level) c.now state.new)
@@ -41,14 +60,24 @@ fn walk(
     ensures sound { OnOk result (IsSound known.now image.now aim.now.besides state.new.best) }
 {
     let Some(level) = level else {
-        try_tags(alloc, image, known, aim, c, state)?;
+        try_tags(alloc, image, known, aim, c, sights, state)?;
         return Ok(None);
     };
     let list = values(lists, level, c);
     for k in 0..list.len() {
         let candidate = having(c, level, list[k]);
-        let mut looked = 1;
-        let may = may_hold(alloc, image, known, level, aim, &candidate, &mut looked)?;
+        let near = narrowed(aim, &state.best);
+        let mut looked = 4;
+        let may = may_hold(
+            alloc,
+            image,
+            known,
+            level,
+            &near,
+            &candidate,
+            sights,
+            &mut looked,
+        )?;
         spend(state, looked);
         if state.work == 0 {
             return Ok(Some(counted(&nowhere(), level, k as u64)));
@@ -62,8 +91,9 @@ fn walk(
             known,
             lists,
             next(level),
-            aim,
+            &near,
             &candidate,
+            sights,
             state,
         )?;
         if let Some(inner) = stop {
@@ -80,11 +110,14 @@ pub fn sweep(
     known: &Known,
     lists: &Lists,
     aim: &Aim,
+    sights: &mut Sights,
     state: &mut Progress,
 ) -> Result<(), AllocError>
+    requires seen { AreSeen image.now sights.old }
     requires aim { IsAim image.now aim.now }
     requires lists { AreLists known.now (length image.now) lists.now }
     requires sound { IsSound known.now image.now aim.now.besides state.old.best }
+    ensures seen { OnOk result (AreSeen image.now sights.new) }
     ensures advances { OnOk result (Advances state.old state.new) }
     ensures settled { OnOk result (0 < state.new.work
         → (c : CandidateValue) → IsSettled known.now image.now aim.now c state.new) }
@@ -112,6 +145,7 @@ pub fn sweep(
         Some(Level::Mem),
         aim,
         &start,
+        sights,
         state,
     )?;
     state.reached = stop.unwrap_or(nowhere());

@@ -5,11 +5,13 @@ ghost use Rattle.zone_spec.specs.declared.Zone.{Zone as ZoneValue};
 ghost use Rattle.layout_spec.specs.Laid.{has_layout};
 ghost use Rattle.layout_spec.specs.Family.{is_chosen, is_tagged, tag_read, tags_for};
 ghost use Rattle.layout_search.specs.Looks.{IsInside};
+ghost use Rattle.layout_search.specs.Sights.{AreSeen};
 ghost use Rattle.layout_search.specs.Tried.{IsAim, IsSound, Advances, TagsSettled};
 
 use crate::laying::zones_of;
 use crate::looking::tag_of;
 use crate::progress::{Aim, Progress};
+use crate::sights::Sights;
 use crate::trying::try_candidate;
 use layout_spec::{Candidate, Known};
 use std::alloc::{AllocError, Global};
@@ -74,12 +76,15 @@ pub fn try_tags(
     known: &Known,
     aim: &Aim,
     c: &Candidate,
+    sights: &mut Sights,
     state: &mut Progress,
 ) -> Result<(), AllocError>
     requires aim { IsAim image.now aim.now }
+    requires seen { AreSeen image.now sights.old }
     requires within { c.now.mem ≤ length image.now }
     requires chosen { is_chosen known.now (length image.now) c.now ≡ true }
     requires sound { IsSound known.now image.now aim.now.besides state.old.best }
+    ensures seen { OnOk result (AreSeen image.now sights.new) }
     ensures advances { OnOk result (Advances state.old state.new) }
     ensures settled { OnOk result (TagsSettled known.now image.now aim.now state.new c.now) }
     ensures sound { OnOk result (IsSound known.now image.now aim.now.besides state.new.best) }
@@ -93,7 +98,7 @@ pub fn try_tags(
             continue;
         }
         let tagged = Candidate { tag: list[k], ..*c };
-        try_candidate(alloc, image, aim, &tagged, state)?;
+        try_candidate(alloc, image, aim, &tagged, sights, state)?;
     }
     Ok(())
 }

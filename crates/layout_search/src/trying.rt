@@ -6,6 +6,7 @@ ghost use Rattle.layout_spec.specs.Laid.{zones_of as zones_as_laid, has_layout};
 ghost use Rattle.layout_spec.specs.Order.{faults, key as key_of};
 ghost use Rattle.layout_spec.specs.Family.{is_of_family};
 ghost use Rattle.layout_search.specs.Laid.{IsLaid};
+ghost use Rattle.layout_search.specs.Sights.{AreSeen};
 ghost use Rattle.layout_search.specs.declared.progress.Effort.TheVariants.{First, All};
 ghost use Rattle.layout_search.specs.Tried.{IsAim, IsKept, IsSound, Advances, IsSettled, is_ahead as is_ahead_of};
 
@@ -13,6 +14,7 @@ use crate::counting::count_zones;
 use crate::laying::zones_of;
 use crate::order::{is_before, key, tally};
 use crate::progress::{Aim, Best, Effort, Progress};
+use crate::sights::Sights;
 use layout_spec::Candidate;
 use std::alloc::{AllocError, Global};
 use zone_spec::Zone;
@@ -48,11 +50,14 @@ fn judge(
     c: &Candidate,
     zones: &[Zone],
     best: Option<Best>,
+    sights: &mut Sights,
     looked: &mut u64,
 ) -> Option<Best>
+    requires seen { AreSeen image.now sights.old }
     requires laid { IsLaid c.now zones.now }
     requires aim { IsAim image.now aim.now }
     requires within { c.now.mem ≤ length image.now }
+    ensures seen { AreSeen image.now sights.new }
     ensures kept { (k : List ℕ) → is_ahead_of k best ≡ false → is_ahead_of k result ≡ false }
     ensures some { result ≡ None → best ≡ None }
     ensures settled { faults image.now (zones_as_laid c.now) ≤ aim.now.limit
@@ -65,7 +70,7 @@ fn judge(
     if fewest > aim.limit {
         return best;
     }
-    let Some(counts) = count_zones(image, zones, aim.limit - fewest, looked) else {
+    let Some(counts) = count_zones(image, zones, aim.limit - fewest, sights, looked) else {
         return best;
     };
     let tally = tally(image, aim.marks, c, zones, &counts);
@@ -87,13 +92,9 @@ fn is_left_out(besides: &Option<Candidate>, c: &Candidate) -> bool
     }
 }
 
-// What a candidate costs that has so many zones, of which so many headers were looked at: with parity each may be
-// decoded.
-fn price(c: &Candidate, zones: usize, looked: u64) -> u64 {
-    let each = if c.parity == 0 { 4 } else { 512 };
-    (zones as u64)
-        .saturating_mul(64)
-        .saturating_add(looked.saturating_mul(each))
+// What a candidate costs that has so many zones, with what looking at their headers costs.
+fn price(zones: usize, looked: u64) -> u64 {
+    (zones as u64).saturating_mul(16).saturating_add(looked)
 }
 
 /// How far a search has come with this best, for so much work more.
@@ -122,10 +123,13 @@ pub fn try_candidate(
     image: &[u8],
     aim: &Aim,
     c: &Candidate,
+    sights: &mut Sights,
     state: &mut Progress,
 ) -> Result<(), AllocError>
     requires aim { IsAim image.now aim.now }
+    requires seen { AreSeen image.now sights.old }
     requires within { c.now.mem ≤ length image.now }
+    ensures seen { OnOk result (AreSeen image.now sights.new) }
     ensures advances { OnOk result (Advances state.old state.new) }
     ensures settled { OnOk result ((known : KnownValue) → IsSettled known image.now aim.now c.now state.new) }
     ensures sound { OnOk result ((known : KnownValue)
@@ -140,7 +144,7 @@ pub fn try_candidate(
         return Ok(());
     };
     let mut looked = 0;
-    let best = judge(image, aim, c, &zones, state.best, &mut looked);
-    *state = after(state, best, price(c, zones.len(), looked));
+    let best = judge(image, aim, c, &zones, state.best, sights, &mut looked);
+    *state = after(state, best, price(zones.len(), looked));
     Ok(())
 }

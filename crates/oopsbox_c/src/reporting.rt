@@ -33,7 +33,7 @@ fn report(
 }
 
 /// The report of an image, as `oopsreport` makes it of a file at the path `name`: by the words, by the only ramoops node
-/// of the device tree unless it is empty, and with neither by the layout that the image shows. The formats are 0 text,
+/// of the device tree unless it is empty, and with neither as the storage or by the layout that the image shows. The formats are 0 text,
 /// 1 a line of JSON, 2 a page.
 #[unsafe(no_mangle)]
 pub extern "C" fn oopsbox_report(

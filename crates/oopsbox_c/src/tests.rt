@@ -120,3 +120,34 @@ fn the_tool_runs(rt: HostRuntime) -> Result<(), Fail> {
     assert!(rt; ran(alloc, LIST, 4097, &mut text).0 == 13);
     Ok(())
 }
+
+// A storage of two dump zones of 4096 bytes, with one dump.
+fn storage() -> [u8; 8192] {
+    let mut image = [0; 8192];
+    image[..16].copy_from_slice(b"DBGC\x2c\0\0\0\0\0\0\0\xe5\x3a\xfc\x4d");
+    image[40] = 1;
+    image[44] = 2;
+    image[52..56].copy_from_slice(b"text");
+    image
+}
+
+// The status of the storage's report by words, and what it tells.
+fn reported(alloc: Global, words: &[u8], text: &mut [u8]) -> (u32, ReportAnswer) {
+    let mut answer = ReportAnswer::default();
+    let status = oopsbox_report(alloc, b"here", words, b"", &storage(), 0, text, &mut answer);
+    (status, answer)
+}
+
+#[test]
+fn a_storage_is_reported(rt: HostRuntime) -> Result<(), Fail> {
+    let mut text = [b'-'; 4096];
+    assert!(rt; reported(rt.alloc(), b"", &mut text).0 == 0);
+    assert!(rt;
+        text.starts_with(
+            b"here: 8192 bytes; a storage of pstore_zone: kmsg_size=8192 console_size=0 ".as_slice()
+        )
+    );
+    let (status, answer) = reported(rt.alloc(), b"pstore_blk.kmsg_size=64", &mut text);
+    assert!(rt; (status, answer.fault, answer.word) == (3, 207, 0));
+    Ok(())
+}

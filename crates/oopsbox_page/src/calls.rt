@@ -20,15 +20,15 @@ fn report(
     answer: &mut ReportAnswer,
 ) -> ReportEnd
     ensures { CallEnds result (IsUtf8 words.now) (IsReadable line.now words.now)
-        (IsUnreadable line.now words.now)
-        (asked_words line.now words.now) (given name.now format tree.now image.now) (written text.old answer.old)
+        (IsUnreadable tree.now line.now words.now)
+        (asked_words tree.now line.now words.now) (given name.now format tree.now image.now) (written text.old answer.old)
         (written text.new answer.new) }
 {
     let asked = match Asked::new(name, format) {
         Some(asked) => asked,
         None => return ReportEnd::Argument,
     };
-    let words = match line_words(alloc, line, words) {
+    let words = match line_words(alloc, line, words, tree) {
         Ok(words) => words,
         Err(NoWords::Unreadable) => return ReportEnd::Argument,
         Err(NoWords::Memory) => return ReportEnd::Memory,
@@ -37,8 +37,8 @@ fn report(
 }
 
 /// The report of an image, as `oopsreport` makes it of a file at the path `name`: by the words of a kernel's command
-/// line and those of a text, by the only ramoops node of the device tree unless it is empty, and with neither by the
-/// layout that the image shows. The formats are 0 text, 1 a line of JSON, 2 a page. The answers are those of
+/// line and those of a text, by the only ramoops node of the device tree unless it is empty, and with neither as the
+/// storage or by the layout that the image shows. The formats are 0 text, 1 a line of JSON, 2 a page. The answers are those of
 /// `oopsbox_report`: 0 done, 3 faulty words, 4 a short image, 12 too little room, 13 an argument out of its range, 14 no
 /// memory, 17 no layout is taken, 18 the device tree gives none.
 #[unsafe(no_mangle)]
@@ -55,8 +55,8 @@ pub extern "C" fn oopsbox_page_report(
 ) -> u32
     ensures { (end : ReportEnd) × (result ≡ status_of end)
         × CallEnds end (IsUtf8 words.now) (IsReadable line.now words.now)
-        (IsUnreadable line.now words.now)
-        (asked_words line.now words.now) (given name.now format tree.now image.now) (written text.old answer.old)
+        (IsUnreadable tree.now line.now words.now)
+        (asked_words tree.now line.now words.now) (given name.now format tree.now image.now) (written text.old answer.old)
         (written text.new answer.new) }
 {
     let end = report(alloc, line, name, words, tree, image, format, text, answer);

@@ -44,3 +44,38 @@ fn a_line_lays_the_image_out(rt: HostRuntime) -> Result<(), Fail> {
     assert!(rt; (status, answer.word, answer.fault) == (3, 5, 2));
     Ok(())
 }
+
+// A storage of two dump zones of 4096 bytes, with one dump.
+fn storage() -> [u8; 8192] {
+    let mut image = [0; 8192];
+    image[..16].copy_from_slice(b"DBGC\x2c\0\0\0\0\0\0\0\xe5\x3a\xfc\x4d");
+    image[40] = 1;
+    image[44] = 2;
+    image[52..56].copy_from_slice(b"text");
+    image
+}
+
+#[test]
+fn a_storage_is_reported(rt: HostRuntime) -> Result<(), Fail> {
+    let mut text = [b'-'; 4096];
+    let mut answer = ReportAnswer::default();
+    let status = oopsbox_page_report(
+        rt.alloc(),
+        b"ro pstore_blk.blkdev=/dev/sda9 pstore_blk.kmsg_size=4",
+        b"here",
+        b"",
+        b"",
+        &storage(),
+        0,
+        &mut text,
+        &mut answer,
+    );
+    assert!(rt; status == 0);
+    assert!(rt; answer.hint == 190);
+    assert!(rt;
+        text.starts_with(
+            b"here: 8192 bytes; a storage of pstore_zone: kmsg_size=4096 console_size=0 ".as_slice()
+        )
+    );
+    Ok(())
+}

@@ -1,10 +1,12 @@
 // The words of a kernel's command line and of a text.
-ghost use Rattle.std.specs.Prelude.{◌≡◌, [], ◌++◌, MatchResult, OnOk};
+ghost use Rattle.std.specs.Prelude.{◌≡◌, ◌++◌, IfOk, IfErr, MatchResult, OnOk};
 ghost use Rattle.grammar_spec.specs.Words.{texts};
-ghost use Rattle.oopsbox_page.specs.Words.{IsReadable, IsUnread, asked_words};
+ghost use Rattle.kernel_line.specs.Line.{IsFaultAmong};
+ghost use Rattle.oopsbox_page.specs.Words.{IsReadable, IsUnread, IsFaultBy, region_words as region_words_of};
+ghost use Rattle.oopsbox_page.specs.Words.{words_by as words_of, no_words as no_words_of, asked_words};
 
-use kernel_line::{LineFault, add_layout_words};
-use report_entry::{WordsFault, read_some_words};
+use kernel_line::{KernelLine, LineFault, Module};
+use report_entry::{WordsFault, read_some_words, with_storage_words};
 use std::alloc::{AllocError, Global};
 
 /// Why there are no words.
@@ -21,26 +23,71 @@ fn add_each(words: &mut Vec<String>, mut more: Vec<String>) -> Result<(), AllocE
     Ok(())
 }
 
+// The words of a line that lay a region out, and then these.
+fn region_words(
+    alloc: Global,
+    line: &KernelLine,
+    more: Vec<String>,
+) -> Result<Vec<String>, LineFault>
+    ensures ok { IfOk result (λ words. texts words.items ≡ region_words_of line.now (texts more.items)) }
+    ensures err { IfErr result (IsFaultAmong Module.Ramoops line.now) }
+{
+    let mut words = Vec::new(alloc);
+    line.add_layout_words(alloc, Module::Ramoops, &mut words)?;
+    add_each(&mut words, more)?;
+    Ok(words)
+}
+
+// Behind those that give the sizes of a storage, where there is no device tree.
+fn words_by(
+    alloc: Global,
+    line: &KernelLine,
+    more: Vec<String>,
+    tree: &[u8],
+) -> Result<Vec<String>, LineFault>
+    ensures { MatchResult result (λ words. texts words.items ≡ words_of tree.now line.now (texts more.items))
+        (IsFaultBy tree.now line.now (texts more.items)) }
+{
+    let words = region_words(alloc, line, more)?;
+    if !tree.is_empty() {
+        return Ok(words);
+    }
+    with_storage_words(alloc, line, words)
+}
+
+fn no_words(fault: LineFault) -> NoWords
+    ensures { result ≡ no_words_of fault }
+{
+    match fault {
+        LineFault::Memory => NoWords::Memory,
+        LineFault::OpenQuote | LineFault::NoText => NoWords::Unreadable,
+    }
+}
+
 /// The words of a kernel's command line that say how ramoops lays its memory out, and then those of a text, each two
-/// with one space between.
-pub fn line_words(alloc: Global, line: &[u8], text: &[u8]) -> Result<Vec<String>, NoWords>
+/// with one space between. If they say nothing of ramoops, and there is no device tree, first those of the line that give
+/// the sizes of a storage.
+pub fn line_words(
+    alloc: Global,
+    line: &[u8],
+    text: &[u8],
+    tree: &[u8],
+) -> Result<Vec<String>, NoWords>
     ensures { MatchResult result
-        (λ words. IsReadable line.now text.now × (texts words.items ≡ asked_words line.now text.now))
-        (IsUnread line.now text.now) }
+        (λ words. IsReadable line.now text.now × (texts words.items ≡ asked_words tree.now line.now text.now))
+        (IsUnread tree.now line.now text.now) }
 {
     let more = match read_some_words(alloc, text) {
         Ok(more) => more,
         Err(WordsFault::NotText) => return Err(NoWords::Unreadable),
         Err(WordsFault::Memory) => return Err(NoWords::Memory),
     };
-    let mut words = Vec::new(alloc);
-    match add_layout_words(alloc, &mut words, line) {
-        Ok(()) => (),
-        Err(LineFault::Memory) => return Err(NoWords::Memory),
-        Err(LineFault::OpenQuote | LineFault::NoText) => return Err(NoWords::Unreadable),
-    }
-    match add_each(&mut words, more) {
-        Ok(()) => Ok(words),
-        Err(_) => Err(NoWords::Memory),
+    let line = match KernelLine::read(alloc, line) {
+        Ok(line) => line,
+        Err(fault) => return Err(no_words(fault)),
+    };
+    match words_by(alloc, &line, more, tree) {
+        Ok(words) => Ok(words),
+        Err(fault) => Err(no_words(fault)),
     }
 }

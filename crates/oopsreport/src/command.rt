@@ -2,7 +2,7 @@
 use clap::{Arg, ArgAction, Command};
 use std::alloc::{AllocError, Global};
 
-const FORMATS: [&str; 3] = ["text", "json", "html"];
+const FORMATS: [&str; 4] = ["text", "json", "html", "brief"];
 
 // What says how the images are laid out.
 fn with_layout<'a>(alloc: Global, command: Command<'a>) -> Result<Command<'a>, AllocError> {
@@ -10,7 +10,9 @@ fn with_layout<'a>(alloc: Global, command: Command<'a>) -> Result<Command<'a>, A
         .long("param")
         .value_name("KEY=VALUE")
         .action(ArgAction::Append)
-        .help("A parameter of the layout, such as mem_size=0x100000; may be given again");
+        .help(
+            "A parameter of the layout, such as mem_size=0x100000 or pstore_blk.kmsg_size=64; may be given again",
+        );
     let as_given = Arg::new(alloc, "mem-as-given")
         .long("mem-as-given")
         .action(ArgAction::SetTrue)
@@ -44,7 +46,7 @@ fn with_kernel<'a>(alloc: Global, command: Command<'a>) -> Result<Command<'a>, A
         .long("cmdline")
         .value_name("TEXT")
         .conflicts_with("cmdline-file")?
-        .help("A kernel's command line, whose ramoops. words are parameters");
+        .help("A kernel's command line, whose ramoops. or pstore_blk. words are parameters");
     let command = command.arg(cmdline)?;
     let file = Arg::new(alloc, "cmdline-file")
         .long("cmdline-file")
@@ -80,7 +82,7 @@ fn with_memory<'a>(alloc: Global, command: Command<'a>) -> Result<Command<'a>, A
         .long("memory")
         .action(ArgAction::SetTrue)
         .help(
-            "Each image is a copy of all memory, of any size, and the regions in it are looked for",
+            "Each image is a copy of all memory, of any size, and ramoops regions in it are looked for, no storages",
         );
     let command = command.arg(memory)?;
     let at = Arg::new(alloc, "at")
@@ -108,7 +110,14 @@ fn with_formats<'a>(alloc: Global, command: Command<'a>) -> Result<Command<'a>, 
         .action(ArgAction::SetTrue)
         .conflicts_with("json")?
         .help("As --format html");
-    command.arg(json)?.arg(html)
+    let brief = Arg::new(alloc, "brief")
+        .long("brief")
+        .action(ArgAction::SetTrue)
+        .conflicts_with("json")?
+        .conflicts_with("html")?
+        .conflicts_with("format")?
+        .help("As --format brief: one line an image, with its path, time and signature");
+    command.arg(json)?.arg(html)?.arg(brief)
 }
 
 // What is done with the images, and the images.
@@ -134,9 +143,16 @@ fn with_work<'a>(alloc: Global, command: Command<'a>) -> Result<Command<'a>, All
         .action(ArgAction::Append)
         .num_args(1..)
         .help(
-            "A file or device: a ramoops region, a kernel's text log, or one of them as gzip; - is standard input",
+            "A file or device: a ramoops region, a kernel's text log, or one of them as gzip; a folder: each file in it; - is standard input",
         );
-    with_text(alloc, command.arg(symbols)?)?.arg(images)
+    let recursive = Arg::new(alloc, "recursive")
+        .short('r')
+        .long("recursive")
+        .action(ArgAction::SetTrue)
+        .help("Of a folder also the files in each folder below");
+    with_text(alloc, command.arg(symbols)?)?
+        .arg(recursive)?
+        .arg(images)
 }
 
 // How a text is shown.

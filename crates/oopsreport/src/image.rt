@@ -113,6 +113,8 @@ fn open<R: Runtime, S: Read>(
     }
     let metadata = fs::metadata(rt, path)?;
     if metadata.is_dir() {
+        // Why its names could not be read.
+        fs::read_dir(rt, path)?;
         bail!("it is a folder");
     }
     if metadata.is_file() {
@@ -154,11 +156,17 @@ pub struct System<R: Runtime, S> {
     rt: R,
     alloc: Global,
     input: S,
+    faults: u64,
 }
 
 impl<R: Runtime, S> System<R, S> {
     pub fn new(rt: R, alloc: Global, input: S) -> System<R, S> {
-        System { rt, alloc, input }
+        System {
+            rt,
+            alloc,
+            input,
+            faults: 0,
+        }
     }
 }
 
@@ -167,14 +175,23 @@ impl<R: Runtime, S: Read> Images for System<R, S> {
 
     ghost content = { λ _ _ _. None };
 
+    ghost faults = { λ s. s.faults };
+
     fn open(&mut self, path: &str, wanted: Wanted) -> Result<Image<R>, Failure> {
         let opened = match wanted {
             Wanted::Front(most) => open(&self.rt, self.alloc, &mut self.input, path, most),
             Wanted::Whole => open_whole(&self.rt, self.alloc, path),
         };
         match opened {
-            Ok(kind) => Ok(Image { kind, faults: 0 }),
+            Ok(kind) => Ok(Image {
+                kind,
+                faults: self.faults,
+            }),
             Err(error) => Err(unopened(self.alloc, &error)),
         }
+    }
+
+    fn close(&mut self, image: Image<R>) {
+        self.faults = image.faults;
     }
 }

@@ -4,10 +4,12 @@ use clap::ArgMatches;
 use dtb::ramoops_nodes;
 use found_regions::{first_address, place_asked};
 use grammar_spec::ParamFault;
-use kernel_line::{KernelLine, LineFault};
+use kernel_line::{KernelLine, LineFault, Module};
 use ramoops_layout::given;
-use report_entry::{Layouts, LayoutsFault, NoLayouts, Place, Said, layouts_by};
-use report_run::{Logs, WholeMemory, dressed};
+use report_entry::{
+    Layouts, LayoutsFault, NoLayouts, Place, Said, layouts_by, storages_in, with_storage_words,
+};
+use report_run::{Logs, Storages, WholeMemory, dressed};
 use report_tool::{Format, add_order, add_tag, ftrace_tag, zone_order};
 use std::alloc::{AllocError, Global};
 use std::io::ErrorKind;
@@ -43,7 +45,7 @@ fn no_line(fault: LineFault) -> NoPlan {
             NoPlan::Words(anyhow!("a quote of the kernel's command line has no end"))
         }
         LineFault::NoText => {
-            NoPlan::Words(anyhow!("a word ramoops. of the kernel's command line is no text"))
+            NoPlan::Words(anyhow!("a word of the layout in the kernel's command line is no text"))
         }
     }
 }
@@ -119,15 +121,23 @@ fn line_count(matches: &ArgMatches<'_>) -> Result<usize, NoPlan> {
     }
 }
 
+/// An unknown key, and a value that is no number: of a region's words, and of a storage's.
+const REGION_FAULTS: [&str; 2] = [
+    "is no parameter of the layout",
+    "gives no number below 4294967296 (a size is in bytes, without k or M)",
+];
+
+const STORAGE_FAULTS: [&str; 2] = [
+    "is no parameter of a storage",
+    "gives no number below 4294967296 (a size is in KiB, without k or M)",
+];
+
 // What is wrong with a word.
-fn told(words: &[String], fault: ParamFault) -> anyhow::Error {
+fn told(words: &[String], fault: ParamFault, faults: [&'static str; 2]) -> anyhow::Error {
     let (place, what) = match fault {
-        ParamFault::UnknownKey(place) => (place, "is no parameter of the layout"),
+        ParamFault::UnknownKey(place) => (place, faults[0]),
         ParamFault::Twice(place) => (place, "gives a parameter again"),
-        ParamFault::NotANumber(place) => (
-            place,
-            "gives no number below 4294967296 (a size is in bytes, without k or M)",
-        ),
+        ParamFault::NotANumber(place) => (place, faults[1]),
     };
     match words.get(place as usize) {
         Some(word) => anyhow!("{word} {what}"),
@@ -190,7 +200,7 @@ fn told_tree(path: &str, number: u32) -> anyhow::Error {
 fn no_layout(words: &[String], path: Option<&str>, none: NoLayouts) -> NoPlan {
     NoPlan::Words(match (none, path) {
         (NoLayouts::Memory, _) => return NoPlan::Memory,
-        (NoLayouts::Word(fault), _) => told(words, fault),
+        (NoLayouts::Word(fault), _) => told(words, fault, REGION_FAULTS),
         (NoLayouts::Unsought(number), _) => told_unsought(number, "mem_size"),
         (NoLayouts::Layout(fault), Some(path)) => {
             anyhow!("{path}: layout fault {}: {fault}", fault.number())
@@ -256,9 +266,13 @@ pub fn format(matches: &ArgMatches<'_>) -> Format {
     if matches.get_flag("html") {
         return Format::Html;
     }
+    if matches.get_flag("brief") {
+        return Format::Brief;
+    }
     match matches.get_str("format") {
         Some("json") => Format::Json,
         Some("html") => Format::Html,
+        Some("brief") => Format::Brief,
         _ => Format::Text,
     }
 }
@@ -394,6 +408,49 @@ fn logs_by(matches: &ArgMatches<'_>, is_silent: bool) -> Logs {
     }
 }
 
+// The words of the command line and of the parameters. Words of a storage count on the command line where nothing is
+// said of a region.
+fn all_words(
+    alloc: Global,
+    matches: &ArgMatches<'_>,
+    line: &KernelLine,
+    takes: bool,
+) -> Result<Vec<String>, NoPlan> {
+    let mut words = Vec::new(alloc);
+    line.add_layout_words(alloc, Module::Ramoops, &mut words)
+        .map_err(no_line)?;
+    add_params(alloc, &mut words, matches)?;
+    if !takes {
+        return Ok(words);
+    }
+    with_storage_words(alloc, line, words).map_err(no_line)
+}
+
+// Whether an image may be a storage, by the words that are no parameters.
+fn takes_storages(matches: &ArgMatches<'_>) -> bool {
+    let is_region = matches.get_flag("memory") || matches.get_flag("region");
+    !is_region && !matches.get_flag("log") && matches.get_str("dtb").is_none()
+}
+
+// Which images are storages.
+fn storages_asked(words: &[String], takes: bool) -> Result<Storages, NoPlan> {
+    if !takes {
+        return Ok(Storages::Never);
+    }
+    match storages_in(words, &[]) {
+        Ok(storages) => Ok(storages),
+        Err(fault) => Err(NoPlan::Words(told(words, fault, STORAGE_FAULTS))),
+    }
+}
+
+// The words that lay a region out: those of a storage do not.
+fn region_words(storages: Storages, words: &[String]) -> &[String] {
+    match storages {
+        Storages::All(_) => &words[..0],
+        _ => words,
+    }
+}
+
 /// How the images are to be read.
 pub fn asked_by<R: Runtime>(
     rt: &R,
@@ -401,16 +458,16 @@ pub fn asked_by<R: Runtime>(
     matches: &ArgMatches<'_>,
     terminal: Terminal,
 ) -> Result<Asked, NoPlan> {
-    let mut words = Vec::new(alloc);
     let line = read_line(rt, alloc, matches)?;
-    line.add_layout_words(alloc, &mut words).map_err(no_line)?;
-    add_params(alloc, &mut words, matches)?;
+    let takes = takes_storages(matches);
+    let words = all_words(alloc, matches, &line, takes)?;
     let memory = match matches.get_flag("memory") {
         true => Some(memory_by(rt, alloc, matches, &line)?),
         false => None,
     };
+    let storages = storages_asked(&words, takes)?;
     let said = said_by(matches, memory);
-    let layouts = layouts_of(rt, alloc, matches, &words, &said)?;
+    let layouts = layouts_of(rt, alloc, matches, region_words(storages, &words), &said)?;
     let lines = line_count(matches)?;
     let map = read_map(rt, alloc, matches)?;
     let layouts = match layouts {
@@ -426,7 +483,7 @@ pub fn asked_by<R: Runtime>(
             lines,
             map,
             logs,
-            storages: matches!(logs, Logs::Texts),
+            storages,
             memory: memory.map(|memory| memory.whole),
             saves: matches.get_str("save").is_some(),
             counts: terminal.is_errors,

@@ -3,6 +3,7 @@
 
 mod command;
 mod folder;
+mod folders;
 mod image;
 mod layout;
 mod memory;
@@ -13,12 +14,14 @@ use clap::ArgMatches;
 use clap::error::ErrorKind;
 use command::command;
 use folder::Named;
+use folder_files::files_of;
+use folders::Tree;
 use image::System;
 use layout::{Asked, NoPlan, Terminal, asked_by, format};
 use memory::Progress;
 use outside::{Sink, WriterSink};
 use report_colours::ColourSink;
-use report_run::{Messages, status_of};
+use report_run::{Messages, format_for, status_of};
 use report_tool::Format;
 use std::alloc::{AllocError, Global};
 use std::io::{IsTerminal, Read};
@@ -89,7 +92,7 @@ fn all_files<R: Runtime, S: Read, E: Sink>(
     }
 }
 
-// The paths of the images.
+// The paths that are named.
 fn paths_of(alloc: Global, matches: &ArgMatches<'_>) -> Result<Vec<String>, AllocError> {
     let mut paths = Vec::new(alloc);
     for path in matches.get_strs("image").unwrap_or(&[]) {
@@ -123,14 +126,17 @@ fn run<R: Runtime, S: Read + Drop, E: Sink>(
             return Ok(error.exit_code() as u8);
         }
     };
-    let paths = paths_of(alloc, &matches)?;
-    if paths.len() > 1 && format(&matches) == Format::Html {
+    let mut tree = Tree::new(rt.clone()?, alloc);
+    let named = paths_of(alloc, &matches)?;
+    let files = files_of(alloc, &named, matches.get_flag("recursive"), &mut tree)?;
+    if files.paths.len() > 1 && format(&matches) == Format::Html {
         let error = command(alloc)?.error(ErrorKind::TooManyValues, "a page shows one image")?;
         error.print(rt)?;
         return Ok(WRONG_WORDS);
     }
     match asked_by(rt, alloc, &matches, terminal) {
-        Ok(asked) => {
+        Ok(mut asked) => {
+            asked.images.format = format_for(files.has_folder, asked.images.format);
             let mut images = System::new(rt.clone()?, alloc, input);
             let mut records = Named::new(rt.clone()?, alloc, folder_named(alloc, &matches)?);
             all_files(
@@ -140,7 +146,7 @@ fn run<R: Runtime, S: Read + Drop, E: Sink>(
                 &mut images,
                 &asked,
                 &mut records,
-                &paths,
+                &files.paths,
             )
         }
         Err(NoPlan::Memory) => Err(AllocError.into()),

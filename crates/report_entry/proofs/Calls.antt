@@ -15,7 +15,7 @@ use Rattle.report_entry.specs.declared.laying.NoLayouts.TheVariants.{Tree as Bad
 use Rattle.report_entry.specs.declared.reports.Reported.{Reported}
 use Rattle.report_entry.specs.declared.reports.Refusal.{Refusal}
 use Rattle.report_entry.specs.declared.reports.Refusal.TheVariants.{NoLayout, Memory as NoMemory, Short as TooShort}
-use Rattle.report_entry.specs.declared.reports.Refusal.TheVariants.{NotFound, Unexplained, Unfinished}
+use Rattle.report_entry.specs.declared.reports.Refusal.TheVariants.{NotFound, Unexplained, Unfinished, Undivided}
 use Rattle.report_entry.specs.Answers.{IsAsked, Tells, ReportEnds}
 use Rattle.report_entry.specs.Calls.{Given, Written, written, CallEnds, Reports}
 
@@ -37,6 +37,7 @@ kept (Err (TooShort n)) old new before after t = grind (arith, t)
 kept (Err NotFound) old new before after t = grind (arith, t)
 kept (Err (Unexplained h)) old new before after t = grind (arith, t)
 kept (Err (Unfinished h)) old new before after t = grind (arith, t)
+kept (Err (Undivided f)) old new before after t = grind (arith, t)
 
 -- a report never says that an argument is outside its range
 pub within : (o : Result Reported Refusal) (old new : List ℕ) (before after : ReportAnswer)
@@ -52,6 +53,7 @@ within (Err (TooShort n)) old new before after t = grind (arith, t)
 within (Err NotFound) old new before after t = grind (arith, t)
 within (Err (Unexplained h)) old new before after t = grind (arith, t)
 within (Err (Unfinished h)) old new before after t = grind (arith, t)
+within (Err (Undivided f)) old new before after t = grind (arith, t)
 
 pub call_ends : (T R U : Type 0) (end : ReportEnd) (words : List Text) (list : List (String Global)) (asked : Asked)
     (g : Given) (old new : List ℕ) (before after : ReportAnswer) → T → R → IsAsked g.name g.format asked

@@ -7,6 +7,7 @@ use Rattle.zone_spec.specs.LayoutFaults.{fault_number as layout_number}
 use Rattle.grammar_spec.specs.Faults.{fault_number as word_number}
 use Rattle.grammar_spec.specs.declared.faults.ParamFault.{ParamFault}
 use Rattle.grammar_spec.specs.declared.faults.ParamFault.TheVariants.{UnknownKey, Twice, NotANumber}
+use Rattle.storage_words.specs.Division.{size_fault_number}
 use Rattle.report_tool.specs.declared.showing.Format.{Format}
 use Rattle.report_tool.specs.declared.showing.Format.TheVariants.{Text, Json, Html}
 use Rattle.report_entry.specs.declared.laying.NoLayouts.{NoLayouts}
@@ -15,7 +16,7 @@ use Rattle.report_entry.specs.declared.laying.NoLayouts.TheVariants.{Tree as Bad
 use Rattle.report_entry.specs.declared.reports.Reported.{Reported}
 use Rattle.report_entry.specs.declared.reports.Refusal.{Refusal}
 use Rattle.report_entry.specs.declared.reports.Refusal.TheVariants.{NoLayout, Memory as NoMemory, Short as TooShort}
-use Rattle.report_entry.specs.declared.reports.Refusal.TheVariants.{NotFound, Unexplained, Unfinished}
+use Rattle.report_entry.specs.declared.reports.Refusal.TheVariants.{NotFound, Unexplained, Unfinished, Undivided}
 use Rattle.report_entry.specs.declared.answers.ReportEnd.{ReportEnd}
 use Rattle.report_entry.specs.declared.answers.ReportEnd.TheVariants.{Done, Fault, Short, Room, Argument, Memory}
 use Rattle.report_entry.specs.declared.answers.ReportEnd.TheVariants.{Unlaid, Tree}
@@ -102,6 +103,8 @@ Tells (Err (Unexplained hint)) end old new before after = TellsText Unlaid (stri
     × (after ≡ hint_answer 2 (length (string_bytes hint)))
 Tells (Err (Unfinished hint)) end old new before after = TellsText Unlaid (string_bytes hint) end old new
     × (after ≡ hint_answer 3 (length (string_bytes hint)))
+Tells (Err (Undivided fault)) end old new before after = (end ≡ Fault) × (new ≡ old)
+    × (after ≡ fault_answer (size_fault_number fault) 0)
 
 -- there is a report, or a reason why there is none, and it was told
 pub record ReportEnds (end : ReportEnd) (words : List (String Global)) (asked : Asked) (tree image old new : List ℕ)

@@ -1,43 +1,13 @@
 -- The lines on a layout that was looked for
 use Rattle.std.specs.Prelude.{◌≡◌, ◌↔◌, ℕ, Bool, true, false, IsTrue, ◌==◌, if◌then◌else◌, List, [], ◌∷◌, ◌++◌, length}
 use Rattle.std.specs.Prelude.{slice_get, codes, decimal, Option, Some, None, Result, Ok, Err}
-use Rattle.std.specs.Fmt.{digits}
 use Rattle.zone_spec.specs.declared.Zone.{Zone}
-use Rattle.zone_spec.specs.Orders.{order_text}
-use Rattle.zone_spec.specs.declared.params.Order.{Order}
-use Rattle.zone_spec.specs.declared.params.Order.TheVariants.{FtracePmsg, PmsgFtrace}
 use Rattle.layout_spec.specs.declared.Candidate.{Candidate}
 use Rattle.zone_spec.specs.declared.params.LayoutFault.{LayoutFault}
 use Rattle.zone_spec.specs.Layout.{layout_of}
 use Rattle.layout_spec.specs.Laid.{params_of}
 use Rattle.layout_search.specs.declared.searching.Found.{Found}
-
--- ---- the words that give a layout found in an image of so many bytes
-
-abbrev pub memory_words : Candidate → ℕ → List ℕ
-memory_words c size = if c.mem == size then [] else codes "mem_size=" ++ decimal c.mem ++ codes " "
-
-abbrev pub size_words : Candidate → List ℕ
-size_words c =
-    codes "record_size=" ++ decimal c.dump ++ codes " console_size=" ++ decimal c.console ++ codes " ftrace_size="
-    ++ decimal c.ftrace ++ codes " pmsg_size=" ++ decimal c.pmsg ++ codes " ecc=" ++ decimal c.parity
-
-unfoldable pub hexadecimal : ℕ → List ℕ
-hexadecimal n = digits 16 false n
-
-abbrev pub tagged_words : Candidate → List ℕ
-tagged_words c = codes " cpus=" ++ decimal c.cpus ++ codes " ftrace_sig=0x" ++ hexadecimal c.tag
-
-abbrev pub ftrace_words : Candidate → List ℕ
-ftrace_words c = if c.ftrace == 0 then [] else tagged_words c
-
--- without this word ftrace is before pmsg
-abbrev pub order_words : Order → List ℕ
-order_words FtracePmsg = []
-order_words PmsgFtrace = codes " order=" ++ order_text PmsgFtrace
-
-unfoldable pub layout_words : Candidate → ℕ → List ℕ
-layout_words c size = memory_words c size ++ size_words c ++ ftrace_words c ++ order_words c.order
+use Rattle.report_tool.specs.LayoutWords.{layout_words}
 
 -- ---- a layout that is taken
 

@@ -1,7 +1,9 @@
 -- The report of an image in memory, and why there is none
-use Rattle.std.specs.Prelude.{◌≡◌, ℕ, ⊤, ◌<◌, true, false, List, [], length, take, string_bytes, Some}
+use Rattle.std.specs.Prelude.{◌≡◌, ◌⊎◌, ℕ, ⊤, ◌<◌, true, false, List, [], length, take, string_bytes, Some, None}
+use Rattle.std.specs.Prelude.{Ok, Err}
 use Rattle.std.specs.declared.string.String.{String}
 use Rattle.std.specs.declared.alloc.Global.{Global}
+use Rattle.grammar_spec.specs.declared.faults.ParamFault.{ParamFault}
 use Rattle.zone_spec.specs.Numbers.{most_memory}
 use Rattle.layout_spec.specs.declared.Known.{Known}
 use Rattle.layout_spec.specs.Laid.{params_of}
@@ -12,14 +14,19 @@ use Rattle.report_tool.specs.declared.plan.Plan.{Plan}
 use Rattle.report_tool.specs.declared.showing.Format.{Format}
 use Rattle.report_tool.specs.Plans.{IsLaid}
 use Rattle.report_tool.specs.Images.{IsReported}
+use Rattle.storage_words.specs.declared.Storages.{Storages}
+use Rattle.storage_report.specs.declared.storage.HeldStorage.{HeldStorage}
+use Rattle.storage_report.specs.Held.{IsLookedAt}
 use Rattle.report_entry.specs.declared.laying.Layouts.{Layouts}
 use Rattle.report_entry.specs.declared.laying.Layouts.TheVariants.{Given, Sought}
+use Rattle.report_entry.specs.declared.laying.NoLayouts.TheVariants.{Word}
 use Rattle.report_entry.specs.declared.reports.HintedPlan.{HintedPlan}
 use Rattle.report_entry.specs.declared.reports.Reported.{Reported}
 use Rattle.report_entry.specs.declared.reports.Refusal.{Refusal}
 use Rattle.report_entry.specs.declared.reports.Refusal.TheVariants.{NoLayout, Memory, Short, NotFound, Unexplained}
-use Rattle.report_entry.specs.declared.reports.Refusal.TheVariants.{Unfinished}
+use Rattle.report_entry.specs.declared.reports.Refusal.TheVariants.{Unfinished, Undivided}
 use Rattle.report_entry.specs.Layouts.{IsLayout, IsNoLayout}
+use Rattle.report_entry.specs.Storages.{storages_in, IsUnheld, IsStorageReport}
 use Rattle.report_entry.specs.Hints.{IsTakenHint, best_hint}
 use Rattle.report_entry.specs.Memory.{text_bytes}
 
@@ -83,7 +90,7 @@ abbrev pub IsNotPlanned : Layouts → List ℕ → List ℕ → Refusal → Type
 IsNotPlanned (Given plan) name image why = ⊥
 IsNotPlanned (Sought known) name image why = IsNotFound known name image why
 
--- ---- the report
+-- ---- the report of a region
 
 -- the text is what is told of the plan, and then the report by it
 pub record IsReportBy (told : HintedPlan) (format : Format) (name image : List ℕ) (r : Reported) : Type 0 where
@@ -98,7 +105,7 @@ IsNotReportedBy told image (Short needed) = (needed ≡ told.plan.mem) × (lengt
 IsNotReportedBy told image Memory = ⊤
 IsNotReportedBy told image other = ⊥
 
-pub record IsReportOf (words : List (String Global)) (tree : List ℕ) (format : Format) (name image : List ℕ)
+pub record IsRegionReport (words : List (String Global)) (tree : List ℕ) (format : Format) (name image : List ℕ)
     (r : Reported) : Type 0 where
   pub layouts : Layouts
   pub laid : IsLayout words tree layouts
@@ -126,11 +133,65 @@ pub record IsShort (words : List (String Global)) (tree name image : List ℕ) (
   pub needs : needed ≡ told.plan.mem
   pub short : length image < told.plan.mem
 
--- why there is no report. Memory is wanted only where there is a layout, or one is to be looked for, or for it
+-- why there is none. Memory is wanted only where there is a layout, or one is to be looked for, or for it
+abbrev pub IsRegionRefused : List (String Global) → List ℕ → List ℕ → List ℕ → Refusal → Type 0
+IsRegionRefused words tree name image (NoLayout none) = IsNoLayout words tree none
+IsRegionRefused words tree name image Memory = HasLayouts words tree
+IsRegionRefused words tree name image (Short needed) = IsShort words tree name image needed
+IsRegionRefused words tree name image NotFound = IsUnlaid words tree name image NotFound
+IsRegionRefused words tree name image (Unexplained hint) = IsUnlaid words tree name image (Unexplained hint)
+IsRegionRefused words tree name image (Unfinished hint) = IsUnlaid words tree name image (Unfinished hint)
+IsRegionRefused words tree name image (Undivided fault) = ⊥
+
+-- ---- the report of an image: of the storage that it is, or else of a region
+
+pub record IsOfStorage (words : List (String Global)) (tree : List ℕ) (format : Format) (name image : List ℕ)
+    (r : Reported) : Type 0 where
+  pub storages : Storages
+  pub by_words : storages_in words tree ≡ Ok storages
+  pub held : HeldStorage
+  pub looked : IsLookedAt storages (Some image) (Some held)
+  pub reported : IsStorageReport held format name r
+
+pub record IsOfRegion (words : List (String Global)) (tree : List ℕ) (format : Format) (name image : List ℕ)
+    (r : Reported) : Type 0 where
+  pub storages : Storages
+  pub by_words : storages_in words tree ≡ Ok storages
+  pub looked : IsLookedAt storages (Some image) None
+  pub reported : IsRegionReport words tree format name image r
+
+abbrev pub IsReportOf : List (String Global) → List ℕ → Format → List ℕ → List ℕ → Reported → Type 0
+IsReportOf words tree format name image r =
+    IsOfStorage words tree format name image r ⊎ IsOfRegion words tree format name image r
+
+-- why there is none: a word that gives a size of a storage is faulty
+pub record IsFaulty (words : List (String Global)) (tree : List ℕ) (why : Refusal) : Type 0 where
+  pub fault : ParamFault
+  pub by_words : storages_in words tree ≡ Err fault
+  pub is : why ≡ NoLayout (Word fault)
+
+-- or it is not known whether the image is a storage, or it is none
+pub record IsUnseen (words : List (String Global)) (tree image : List ℕ) (why : Refusal) : Type 0 where
+  pub storages : Storages
+  pub by_words : storages_in words tree ≡ Ok storages
+  pub unheld : IsUnheld storages image why
+
+-- or memory ran out for the report of a storage
+pub record IsUnmade (words : List (String Global)) (tree image : List ℕ) (why : Refusal) : Type 0 where
+  pub storages : Storages
+  pub by_words : storages_in words tree ≡ Ok storages
+  pub held : HeldStorage
+  pub looked : IsLookedAt storages (Some image) (Some held)
+  pub is : why ≡ Memory
+
+-- or there is none of the region
+pub record IsNoRegion (words : List (String Global)) (tree name image : List ℕ) (why : Refusal) : Type 0 where
+  pub storages : Storages
+  pub by_words : storages_in words tree ≡ Ok storages
+  pub looked : IsLookedAt storages (Some image) None
+  pub cause : IsRegionRefused words tree name image why
+
 abbrev pub IsRefused : List (String Global) → List ℕ → List ℕ → List ℕ → Refusal → Type 0
-IsRefused words tree name image (NoLayout none) = IsNoLayout words tree none
-IsRefused words tree name image Memory = HasLayouts words tree
-IsRefused words tree name image (Short needed) = IsShort words tree name image needed
-IsRefused words tree name image NotFound = IsUnlaid words tree name image NotFound
-IsRefused words tree name image (Unexplained hint) = IsUnlaid words tree name image (Unexplained hint)
-IsRefused words tree name image (Unfinished hint) = IsUnlaid words tree name image (Unfinished hint)
+IsRefused words tree name image why =
+    IsFaulty words tree why ⊎ (IsUnseen words tree image why ⊎ (IsUnmade words tree image why
+    ⊎ IsNoRegion words tree name image why))

@@ -10,13 +10,14 @@ use grammar_spec::ParamFault;
 use report_tool::Format;
 use std::alloc::Global;
 use std::str;
+use storage_words::size_fault_number;
 
 /// How a report ends.
 #[derive(Clone, Copy, Debug, PartialEq, Eq)]
 pub enum ReportEnd {
     /// The text is the report.
     Done,
-    /// A word is faulty, or the parameters have no layout.
+    /// A word is faulty, or the parameters have no layout, or divide no storage.
     Fault,
     /// The image has fewer bytes than the layout needs.
     Short,
@@ -182,6 +183,10 @@ fn tell_refusal(refusal: &Refusal, text: &mut [u8], answer: &mut ReportAnswer) -
         }
         Refusal::Unexplained(hint) => tell_hint(2, hint, text, answer),
         Refusal::Unfinished(hint) => tell_hint(3, hint, text, answer),
+        Refusal::Undivided(fault) => {
+            *answer = fault_answer(size_fault_number(*fault), 0);
+            ReportEnd::Fault
+        }
     }
 }
 

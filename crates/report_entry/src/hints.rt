@@ -2,100 +2,14 @@
 ghost use Rattle.std.specs.Prelude.{◌≡◌, ◌↔◌, ◌++◌, IsTrue, decimal, string_bytes, IfOk, OnOk};
 ghost use Rattle.zone_spec.specs.Layout.{layout_of};
 ghost use Rattle.layout_spec.specs.Laid.{params_of};
-ghost use Rattle.report_entry.specs.Hints.{hexadecimal, memory_words, size_words, tagged_words, ftrace_words, order_words};
-ghost use Rattle.report_entry.specs.Hints.{layout_words, faults_text, found_line, rival_text, untried_line};
+ghost use Rattle.report_entry.specs.Hints.{faults_text, found_line, rival_text, untried_line};
 ghost use Rattle.report_entry.specs.Hints.{LiesAs, LieAlike, AreAlike, IsRivalLine, IsTakenHint, best_hint};
 
 use layout_search::{Candidate, Found, params};
 use ramoops_layout::{LayoutError, layout};
+use report_tool::{layout_words, push_number};
 use std::alloc::{AllocError, Global};
-use zone_spec::{Order, Zone};
-
-// Appends words and a number after them.
-fn push_number(alloc: Global, text: &mut String, words: &str, n: u64) -> Result<(), AllocError>
-    ensures { OnOk result (string_bytes text.new ≡ string_bytes text.old ++ words.now ++ decimal n) }
-{
-    text.push_str(words)?;
-    text.push_str(&n.to_string(alloc)?)?;
-    Ok(())
-}
-
-#[tactic(auto, unfolding(crate::specs::Hints::hexadecimal))]
-fn hexadecimal(alloc: Global, n: u32) -> Result<String, AllocError>
-    ensures { IfOk result (λ text. string_bytes text ≡ hexadecimal n) }
-{
-    format!(in alloc; "{n:x}")
-}
-
-fn memory_words(alloc: Global, c: &Candidate, size: u64) -> Result<String, AllocError>
-    ensures { IfOk result (λ text. string_bytes text ≡ memory_words c.now size) }
-{
-    let mut text = String::new(alloc);
-    if c.mem == size {
-        return Ok(text);
-    }
-    push_number(alloc, &mut text, "mem_size=", c.mem)?;
-    text.push_str(" ")?;
-    Ok(text)
-}
-
-fn size_words(alloc: Global, c: &Candidate) -> Result<String, AllocError>
-    ensures { IfOk result (λ text. string_bytes text ≡ size_words c.now) }
-{
-    let mut text = String::new(alloc);
-    push_number(alloc, &mut text, "record_size=", c.dump)?;
-    push_number(alloc, &mut text, " console_size=", c.console)?;
-    push_number(alloc, &mut text, " ftrace_size=", c.ftrace)?;
-    push_number(alloc, &mut text, " pmsg_size=", c.pmsg)?;
-    push_number(alloc, &mut text, " ecc=", c.parity)?;
-    Ok(text)
-}
-
-fn tagged_words(alloc: Global, c: &Candidate) -> Result<String, AllocError>
-    ensures { IfOk result (λ text. string_bytes text ≡ tagged_words c.now) }
-{
-    let tag = hexadecimal(alloc, c.tag)?;
-    let mut text = String::new(alloc);
-    push_number(alloc, &mut text, " cpus=", c.cpus)?;
-    text.push_str(" ftrace_sig=0x")?;
-    text.push_str(&tag)?;
-    Ok(text)
-}
-
-fn ftrace_words(alloc: Global, c: &Candidate) -> Result<String, AllocError>
-    ensures { IfOk result (λ text. string_bytes text ≡ ftrace_words c.now) }
-{
-    if c.ftrace == 0 {
-        return Ok(String::new(alloc));
-    }
-    tagged_words(alloc, c)
-}
-
-fn order_words(alloc: Global, order: Order) -> Result<String, AllocError>
-    ensures { IfOk result (λ text. string_bytes text ≡ order_words order) }
-{
-    let mut text = String::new(alloc);
-    match order {
-        Order::FtracePmsg => Ok(text),
-        Order::PmsgFtrace => {
-            text.push_str(" order=")?;
-            text.push_str(Order::PmsgFtrace.text())?;
-            Ok(text)
-        }
-    }
-}
-
-// The words that give a layout which was found in an image of so many bytes.
-#[tactic(auto, unfolding(crate::specs::Hints::layout_words))]
-fn layout_words(alloc: Global, c: &Candidate, size: u64) -> Result<String, AllocError>
-    ensures { IfOk result (λ text. string_bytes text ≡ layout_words c.now size) }
-{
-    let mut text = memory_words(alloc, c, size)?;
-    text.push_str(&size_words(alloc, c)?)?;
-    text.push_str(&ftrace_words(alloc, c)?)?;
-    text.push_str(&order_words(alloc, c.order)?)?;
-    Ok(text)
-}
+use zone_spec::Zone;
 
 fn faults_text(alloc: Global, faults: u64) -> Result<String, AllocError>
     ensures { IfOk result (λ text. string_bytes text ≡ faults_text faults) }

@@ -8,6 +8,7 @@ mod hints;
 mod laying;
 mod memory;
 mod reports;
+mod storages;
 mod words;
 
 pub use answers::{Asked, ReportAnswer, ReportEnd, report_in};
@@ -15,4 +16,5 @@ pub use hints::{best_hint, taken_hint};
 pub use laying::{Layouts, LayoutsFault, NoLayouts, Place, Said, layouts_by};
 pub use memory::{Image, Text};
 pub use reports::{HintedPlan, Refusal, plan_found};
+pub use storages::{storages_in, with_storage_words};
 pub use words::{WordsFault, fill, read_some_words, read_words_of};

@@ -3,14 +3,16 @@ ghost use Rattle.std.specs.Prelude.{◌≡◌, IfOk, MatchResult};
 ghost use Rattle.report_entry.specs.declared.reports.Refusal.TheVariants.{Memory};
 ghost use Rattle.report_entry.specs.Memory.{image_bytes};
 ghost use Rattle.report_entry.specs.Reports.{IsUntaken, IsTakenPlan, IsPlanFound, IsNotTaken, IsFoundPlan, IsNotFound};
-ghost use Rattle.report_entry.specs.Reports.{IsPlanOf, IsNotPlanned, IsReportBy, IsNotReportedBy, IsReportOf};
-ghost use Rattle.report_entry.specs.Reports.{IsRefused};
+ghost use Rattle.report_entry.specs.Reports.{IsPlanOf, IsNotPlanned, IsReportBy, IsNotReportedBy, IsRegionReport};
+ghost use Rattle.report_entry.specs.Reports.{IsRegionRefused, IsReportOf, IsRefused};
 
 use crate::hints::{best_hint, taken_hint};
 use crate::laying::{Layouts, NoLayouts, layout_by};
 use crate::memory::{Image, Text};
+use crate::storages::{storage_in, storage_report, storages_in};
 use layout_search::Found;
 use outside::Bytes;
+use psz_spec::SizeFault;
 use report_tool::{Format, Known, Plan, Stop, find, report};
 use std::alloc::{AllocError, Global};
 
@@ -41,6 +43,8 @@ pub enum Refusal {
     Unexplained(String),
     /// The line on the best layout of those that were tried, which are not all.
     Unfinished(String),
+    /// The image is a storage, by words, and no kernel divides it by their sizes.
+    Undivided(SizeFault),
 }
 
 impl From<AllocError> for Refusal {
@@ -153,7 +157,30 @@ fn report_by(
     }
 }
 
-/// The report of an image by words and a device tree, as `oopsreport` makes it of a file at the path `name`.
+// The report of a region by words and a device tree.
+fn region_report(
+    alloc: Global,
+    words: &[String],
+    tree: &[u8],
+    format: Format,
+    name: &str,
+    image: &[u8],
+) -> Result<Reported, Refusal>
+    ensures { MatchResult result (IsRegionReport words.now tree.now format name.now image.now)
+        (IsRegionRefused words.now tree.now name.now image.now) }
+{
+    let layouts = match layout_by(alloc, words, tree) {
+        Ok(layouts) => layouts,
+        Err(fault) => return Err(Refusal::NoLayout(fault)),
+    };
+    let mut image = Image::new(Bytes::copy_of(alloc, image)?);
+    let told = plan_of(alloc, layouts, name, &mut image)?;
+    report_by(alloc, told, format, name, &mut image)
+}
+
+/// The report of an image by words and a device tree, as `oopsreport` makes it of a file at the path `name`, but with the
+/// lines on a layout that was looked for in front: of the storage that it is, by words of `pstore_blk` or, without words
+/// and tree, by a dump that stands in it; else of a region.
 pub fn report_of(
     alloc: Global,
     words: &[String],
@@ -165,11 +192,13 @@ pub fn report_of(
     ensures { MatchResult result (IsReportOf words.now tree.now format name.now image.now)
         (IsRefused words.now tree.now name.now image.now) }
 {
-    let layouts = match layout_by(alloc, words, tree) {
-        Ok(layouts) => layouts,
-        Err(fault) => return Err(Refusal::NoLayout(fault)),
+    let storages = match storages_in(words, tree) {
+        Ok(storages) => storages,
+        Err(fault) => return Err(Refusal::NoLayout(NoLayouts::Word(fault))),
     };
-    let mut image = Image::new(Bytes::copy_of(alloc, image)?);
-    let told = plan_of(alloc, layouts, name, &mut image)?;
-    report_by(alloc, told, format, name, &mut image)
+    match storage_in(alloc, storages, image) {
+        Ok(Some(held)) => Ok(storage_report(alloc, &held, format, name)?),
+        Ok(None) => region_report(alloc, words, tree, format, name, image),
+        Err(why) => Err(why),
+    }
 }

@@ -371,8 +371,9 @@ pub record Answers : Type 0 where
   pub signature : Data
   pub warnings : Data
 
-abbrev pub line_with : Answers → List ℕ → Data → Data → Data → Data
-line_with a path parameters records zones = object (
+abbrev pub line_with : Answers → Data → List ℕ → Data → Data → Data → Data
+line_with a better path parameters records zones = object (
+    member (codes "better") better (
     member (codes "death") a.death (
     member (codes "end") a.end (
     member (codes "machine") a.machine (
@@ -382,7 +383,7 @@ line_with a path parameters records zones = object (
     member (codes "schema") (count 2) (
     member (codes "signature") a.signature (
     member (codes "warnings") a.warnings (
-    member (codes "zones") zones no_members))))))))))
+    member (codes "zones") zones no_members)))))))))))
 
 abbrev pub answers_by : ReportHeld → Option DeathTold → Answers
 answers_by report told = record {
@@ -393,16 +394,17 @@ answers_by report told = record {
   warnings = warnings_data report.origin (warnings_by report told);
 }
 
-abbrev pub line_data : ReportHeld → List ℕ → Division → List Data → List Data → Data
-line_data report path division zones records =
-    line_with (answers_by report (death_told report.records)) path (division_data division) (array (items_of records))
+-- `better` are the words of a layout that explains the image better
+abbrev pub line_data : ReportHeld → List ℕ → List ℕ → Division → List Data → List Data → Data
+line_data report better path division zones records =
+    line_with (answers_by report (death_told report.records)) (bytes_data better) path (division_data division) (array (items_of records))
     (array (items_of zones))
 
 -- the line of a report: the tokens of this data, in order, with nothing between them
-pub record IsLine (path : List ℕ) (division : Division) (zones : List Zone) (report : ReportHeld) (text : List ℕ)
-    : Type 0 where
+pub record IsLine (path : List ℕ) (division : Division) (zones : List Zone) (better : List ℕ) (report : ReportHeld)
+    (text : List ℕ) : Type 0 where
   pub values : List Data
   pub each_zone : AreZones zones report.logs.readings report.parts (length zones) values
-  pub in_order : IsInOrder text (line_data report path division values
+  pub in_order : IsInOrder text (line_data report better path division values
       (map (record_data report.origin (saved report.logs)) report.records))
   pub compact : text ≡ print (tokens text)

@@ -5,7 +5,7 @@ ghost use Rattle.report_spec.specs.Deaths.{death_told as death_of};
 ghost use Rattle.report_json.specs.Schema.{answers_by, line_with, IsLine};
 ghost use Rattle.report_json.specs.Answering.{answers_in};
 
-use crate::deaths::death_value;
+use crate::deaths::{bytes_value, death_value};
 use crate::ends::end_value;
 use crate::machines::{machine_value, signature_value};
 use crate::records::record_values;
@@ -51,15 +51,17 @@ fn answer_of(alloc: Global, report: &Report) -> Result<Answer, AllocError>
 fn line_value(
     alloc: Global,
     answer: Answer,
+    better: Value,
     path: &str,
     parameters: Value,
     records: Value,
     zones: Value,
 ) -> Result<Value, AllocError>
-    ensures { IfOk result (λ v. view v ≡ line_with (answers_in answer) path.now (view parameters) (view records)
+    ensures { IfOk result (λ v. view v ≡ line_with (answers_in answer) (view better) path.now (view parameters) (view records)
         (view zones)) }
 {
     json!(in alloc; {
+        "better": better,
         "death": answer.death,
         "end": answer.end,
         "machine": answer.machine,
@@ -73,17 +75,19 @@ fn line_value(
     })
 }
 
-/// The report of the image at `path` as JSON, without a newline.
+/// The report of the image at `path` as JSON, without a newline. `better` are the words of a layout that explains the
+/// image better, if there are any.
 pub fn json(
     alloc: Global,
     path: &str,
     division: &Division,
     zones: &[Zone],
     report: &Report,
+    better: &str,
 ) -> Result<String, AllocError>
     requires readings { length report.now.logs.readings ≡ length zones.now }
     requires parts { length report.now.parts ≡ length zones.now }
-    ensures { IfOk result (λ text. IsLine path.now division.now zones.now report.now (string_bytes text)) }
+    ensures { IfOk result (λ text. IsLine path.now division.now zones.now better.now report.now (string_bytes text)) }
 {
     let parameters = division_value(alloc, division)?;
     let record_list = record_values(alloc, report.origin(), report.logs(), report.records())?;
@@ -91,6 +95,7 @@ pub fn json(
     let zone_list = zone_values(alloc, zones, report.logs(), report.parts())?;
     let zones = Value::from(zone_list);
     let answer = answer_of(alloc, report)?;
-    let value = line_value(alloc, answer, path, parameters, records, zones)?;
+    let better = bytes_value(alloc, better.as_bytes())?;
+    let value = line_value(alloc, answer, better, path, parameters, records, zones)?;
     value.to_string(alloc)
 }

@@ -5,6 +5,7 @@ mod BestLines
 mod FoundRegions
 mod LogEnds
 mod NamedRegions
+mod PackedEnds
 mod RegionSteps
 mod ReportEnds
 mod RunSteps

@@ -1,4 +1,4 @@
--- A report behind the lines on its layout ends the report of an image, and so does one by a plan that is given.
+-- A report and the lines on its layout end the report of an image, and so does one by a plan that is given.
 -- `sought_report` and `report_image` cite them.
 use Rattle.std.proofs.Common.{◌≡◌, ◌≤◌, ℕ, List, Option, subst, sym, refl, inl, inr, string_bytes}
 use Rattle.std.specs.Prelude.{Result, Ok, Err, MatchResult}
@@ -6,7 +6,7 @@ use Rattle.layout_spec.specs.declared.Known.{Known}
 use Rattle.region_report.specs.Reports.{ReportHeld}
 use Rattle.report_tool.specs.declared.plan.Plan.{Plan}
 use Rattle.report_tool.specs.declared.showing.Format.{Format}
-use Rattle.report_tool.specs.declared.showing.Format.TheVariants.{Text, Json, Html}
+use Rattle.report_tool.specs.declared.showing.Format.TheVariants.{Text, Json, Html, Brief}
 use Rattle.report_tool.specs.Images.{IsReported}
 use Rattle.report_entry.specs.declared.reports.HintedPlan.{HintedPlan}
 use Rattle.report_entry.specs.declared.laying.Layouts.{Layouts}
@@ -24,65 +24,55 @@ pub settled : (format : Format) (lines : List ℕ) (given now : Option (List ℕ
 settled Text lines given now before after a b t = t.no_fault
 settled Json lines given now before after a b t = t.no_fault
 settled Html lines given now before after a b t = t.no_fault
+settled Brief lines given now before after a b t = t.no_fault
 
-module _ (asked : Asked) (known : Known) (path : List ℕ) (holds : Option (List ℕ)) (told : HintedPlan)
-    (planned : IsAskedPlan asked known path holds told) (given between now : Option (List ℕ)) (put0 put2 : ℕ)
-    (a b : Seen) (lines : TellsLayout asked.format (string_bytes told.hint) given between put0 put0 a b)
-    (read0 read1 read2 : ℕ) (later : read0 ≤ read1) where
-  ends : (r : Result ReportHeld Failure)
-      → MatchResult r (IsReported asked.format path told.plan holds between now)
-      (IsStopped asked.format path told.plan holds read1 read2 between now put0 put2)
-      → MatchResult r (IsSoughtReport asked known path holds given now a b)
-      (IsNoSoughtReport asked known path holds read0 read2 given now put0 put2 a b)
-  ends (Ok report) h = record {
+module _ (asked : Asked) (known : Known) (path : List ℕ) (holds same : Option (List ℕ)) (told : HintedPlan)
+    (planned : IsAskedPlan asked known path holds told) (e : same ≡ holds) where
+  -- the report by the plan stopped
+  pub unreported : (given now : Option (List ℕ)) (put0 put1 read0 read1 read2 : ℕ) (a : Seen) (why : Failure)
+      → read0 ≤ read1 → IsStopped asked.format path told.plan same read1 read2 given now put0 put1 why
+      → IsNoSoughtReport asked known path holds read0 read2 given now put0 put1 a a why
+  unreported given now put0 put1 read0 read1 read2 a why later h = inr (inr (record {
     told = told;
     planned = planned;
-    between = between;
-    faults = put0;
-    lines = lines;
-    reported = h;
-  }
-  ends (Err why) h = inr (inr (record {
-    told = told;
-    planned = planned;
-    between = between;
-    lines = lines;
     read_between = read1;
     later = later;
-    cause = h;
+    cause = subst (λ (o : Option (List ℕ)). IsStopped asked.format path told.plan o read1 read2 given now put0 put1 why)
+        e h;
+    silent = refl;
   }))
 
-pub behind_lines : (asked : Asked) (known : Known) (path : List ℕ) (holds same : Option (List ℕ)) (told : HintedPlan)
-    → IsAskedPlan asked known path holds told → same ≡ holds → (given between now : Option (List ℕ))
-    (put0 put1 put2 : ℕ) (a b : Seen)
-    → TellsLayout asked.format (string_bytes told.hint) given between put0 put1 a b → (read0 read1 read2 : ℕ)
-    → read0 ≤ read1 → (r : Result ReportHeld Failure)
-    → MatchResult r (IsReported asked.format path told.plan same between now)
-    (IsStopped asked.format path told.plan same read1 read2 between now put1 put2)
-    → MatchResult r (IsSoughtReport asked known path holds given now a b)
-    (IsNoSoughtReport asked known path holds read0 read2 given now put0 put2 a b)
-behind_lines asked known path holds same told planned e given between now put0 put1 put2 a b lines read0 read1 read2
-    later r h =
-    let kept = settled asked.format (string_bytes told.hint) given between put0 put1 a b lines in
-    ends asked known path holds told planned given between now put0 put2 a b
-    (subst (λ (p : ℕ). TellsLayout asked.format (string_bytes told.hint) given between put0 p a b) kept lines)
-    read0 read1 read2 later r
-    (subst (λ (p : ℕ). MatchResult r (IsReported asked.format path told.plan holds between now)
-    (IsStopped asked.format path told.plan holds read1 read2 between now p put2)) kept
-    (subst (λ (o : Option (List ℕ)). MatchResult r (IsReported asked.format path told.plan o between now)
-    (IsStopped asked.format path told.plan o read1 read2 between now put1 put2)) e h))
+  module _ (given between now : Option (List ℕ)) (report : ReportHeld)
+      (reported : IsReported asked.format path told.plan same given between report) (lines : List ℕ)
+      (are : lines ≡ string_bytes told.hint) (put0 put1 put2 : ℕ) (kept : put1 ≡ put0) (a b : Seen) where
+    here : IsReported asked.format path told.plan holds given between report
+    here = subst (λ (o : Option (List ℕ)). IsReported asked.format path told.plan o given between report) e reported
 
--- the lines on the layout failed
-pub untold : (asked : Asked) (known : Known) (path : List ℕ) (holds : Option (List ℕ)) (told : HintedPlan)
-    → IsAskedPlan asked known path holds told → (lines : List ℕ) → lines ≡ string_bytes told.hint
-    → (given now : Option (List ℕ)) (put0 put1 read0 read1 : ℕ) (a b : Seen) (why : Failure)
-    → IsNotTold asked.format lines given now put0 put1 a b why
-    → IsNoSoughtReport asked known path holds read0 read1 given now put0 put1 a b why
-untold asked known path holds told planned lines e given now put0 put1 read0 read1 a b why h =
-    inr (inl (record {
+    -- the lines were told behind it
+    pub ended : TellsLayout asked.format lines between now put1 put2 a b
+        → IsSoughtReport asked known path holds given now a b report
+    ended tells = record {
       told = told;
       planned = planned;
-      cause = subst (λ (t : List ℕ). IsNotTold asked.format t given now put0 put1 a b why) e h;
+      between = between;
+      reported = here;
+      faults = put1;
+      lines = subst (λ (t : List ℕ). TellsLayout asked.format t between now put1 put1 a b) are
+          (subst (λ (p : ℕ). TellsLayout asked.format lines between now put1 p a b)
+          (settled asked.format lines between now put1 put2 a b tells) tells);
+    }
+
+    -- or they failed
+    pub unended : (read0 read1 : ℕ) (why : Failure) → IsNotTold asked.format lines between now put1 put2 a b why
+        → IsNoSoughtReport asked known path holds read0 read1 given now put0 put2 a b why
+    unended read0 read1 why fails = inr (inl (record {
+      told = told;
+      planned = planned;
+      between = between;
+      report = report;
+      reported = here;
+      cause = subst (λ (p : ℕ). IsNotTold asked.format (string_bytes told.hint) between now p put2 a b why) kept
+          (subst (λ (t : List ℕ). IsNotTold asked.format t between now put1 put2 a b why) are fails);
     }))
 
 -- a plan that is given: nothing goes to standard error

@@ -9,52 +9,56 @@ use Rattle.report_run.specs.declared.plans.Wanted.{Wanted}
 use Rattle.report_run.specs.States.{State}
 use Rattle.report_run.specs.Runs.{wanted, IsStep, AreSteps}
 
-module _ (asked : Asked) (content : List ℕ → Wanted → Option (List ℕ)) (paths : List (String Global)) (start : State) where
+module _ (asked : Asked) (content : List ℕ → Wanted → Option (List ℕ)) (paths : List (String Global)) (first : ℕ)
+    (start : State) where
   -- what the images from a place on do, those before have led to
-  abbrev pub Continues : ℕ → State → Bool → Type 0
-  Continues i s failed =
-      (after : State) (now : Bool) → AreSteps asked content (length paths) i (drop i paths) s failed after now
-      → AreSteps asked content (length paths) 0 paths start false after now
+  abbrev pub Continues : ℕ → ℕ → State → Bool → Type 0
+  Continues i reads s failed =
+      (last : ℕ) (after : State) (now : Bool)
+      → AreSteps asked content (length paths) i (drop i paths) reads s failed last after now
+      → AreSteps asked content (length paths) 0 paths first start false last after now
 
-  pub none_run : Continues 0 start false
-  none_run = λ after now steps. steps
+  pub none_run : Continues 0 first start false
+  none_run = λ last after now steps. steps
 
-  next : (i : ℕ) (path : String Global) (s m : State) (was failed : Bool) → i < length paths
+  next : (i : ℕ) (path : String Global) (r q : ℕ) (s m : State) (was failed : Bool) → i < length paths
       → path ≡ get_or paths i path
-      → IsStep asked i (length paths) (string_bytes path) (content (string_bytes path) (wanted asked.memory asked.layouts)) s m was
-      failed → Continues i s was → Continues (i + 1) m failed
+      → IsStep asked i (length paths) (string_bytes path) (content (string_bytes path) (wanted asked.memory asked.layouts))
+      r q s m was failed → Continues i r s was → Continues (i + 1) q m failed
   unfolding AreSteps
-  next i path s m was failed inside is_path step so_far =
-      λ after now steps. so_far after now
-      (subst (λ (ps : List (String Global)). AreSteps asked content (length paths) i ps s was after now)
+  next i path r q s m was failed inside is_path step so_far =
+      λ last after now steps. so_far last after now
+      (subst (λ (ps : List (String Global)). AreSteps asked content (length paths) i ps r s was last after now)
       (sym (drop-cons paths i path inside ∙ ap (λ p. p ∷ drop (suc i) paths) (sym is_path)
       ∙ ap (λ k. path ∷ drop k paths) (sym (add-one i))))
-      (joined after now steps))
+      (joined last after now steps))
     where
-      joined : (after : State) (now : Bool)
-          → AreSteps asked content (length paths) (i + 1) (drop (i + 1) paths) m failed after now
-          → AreSteps asked content (length paths) i (path ∷ drop (i + 1) paths) s was after now
-      joined after now steps = (m, failed, step, steps)
+      joined : (last : ℕ) (after : State) (now : Bool)
+          → AreSteps asked content (length paths) (i + 1) (drop (i + 1) paths) q m failed last after now
+          → AreSteps asked content (length paths) i (path ∷ drop (i + 1) paths) r s was last after now
+      joined last after now steps = (q, m, failed, step, steps)
 
-  pub one_run : (i : ℕ) (path : String Global) (text : List ℕ) (held : List ℕ → Wanted → Option (List ℕ)) (s m : State)
-      (was failed : Bool) → i < length paths → path ≡ get_or paths i path → text ≡ string_bytes path → held ≡ content
-      → IsStep asked i (length paths) text (held text (wanted asked.memory asked.layouts)) s m was failed
-      → Continues i s was → Continues (i + 1) m failed
-  one_run i path text held s m was failed inside is_path is_text same step so_far =
-      next i path s m was failed inside is_path
-      (subst (λ (t : List ℕ). IsStep asked i (length paths) t (content t (wanted asked.memory asked.layouts)) s m was failed)
+  pub one_run : (i : ℕ) (path : String Global) (text : List ℕ) (held : List ℕ → Wanted → Option (List ℕ)) (r q : ℕ)
+      (s m : State) (was failed : Bool) → i < length paths → path ≡ get_or paths i path → text ≡ string_bytes path
+      → held ≡ content
+      → IsStep asked i (length paths) text (held text (wanted asked.memory asked.layouts)) r q s m was failed
+      → Continues i r s was → Continues (i + 1) q m failed
+  one_run i path text held r q s m was failed inside is_path is_text same step so_far =
+      next i path r q s m was failed inside is_path
+      (subst (λ (t : List ℕ). IsStep asked i (length paths) t (content t (wanted asked.memory asked.layouts)) r q s m was
+      failed)
       is_text
       (subst (λ (f : List ℕ → Wanted → Option (List ℕ)). IsStep asked i (length paths) text
-      (f text (wanted asked.memory asked.layouts)) s m was failed) same step))
+      (f text (wanted asked.memory asked.layouts)) r q s m was failed) same step))
       so_far
 
-  pub all_run : (i : ℕ) (s : State) (failed : Bool) → length paths ≤ i → Continues i s failed
-      → AreSteps asked content (length paths) 0 paths start false s failed
+  pub all_run : (i : ℕ) (r : ℕ) (s : State) (failed : Bool) → length paths ≤ i → Continues i r s failed
+      → AreSteps asked content (length paths) 0 paths first start false r s failed
   unfolding AreSteps
-  all_run i s failed behind so_far =
-      so_far s failed (subst (λ (ps : List (String Global)). AreSteps asked content (length paths) i ps s failed s
+  all_run i r s failed behind so_far =
+      so_far r s failed (subst (λ (ps : List (String Global)). AreSteps asked content (length paths) i ps r s failed r s
       failed)
       (sym (drop_all i paths behind)) stays)
     where
-      stays : AreSteps asked content (length paths) i [] s failed s failed
-      stays = (refl, refl)
+      stays : AreSteps asked content (length paths) i [] r s failed r s failed
+      stays = (refl, refl, refl)

@@ -1,96 +1,20 @@
--- An image that may be a storage: what a look at it tells, and how its report ends. For `storage_of`, `report_storage`
--- and `unlogged_report`.
-use Rattle.std.proofs.Common.{◌≡◌, ◌≤◌, ◌∙◌, ℕ, Bool, true, false, List, Option, Some, None, refl, sym, subst, inl, inr}
+-- An image that may be a storage: how its report ends. For `unlogged_report`.
+use Rattle.std.proofs.Common.{◌≡◌, ◌≤◌, ℕ, List, Option, Some, None, refl, subst, inl, inr}
 use Rattle.std.specs.Prelude.{Result, Ok, Err, MatchResult}
-use Rattle.command_spec.specs.declared.Stop.{Stop}
 use Rattle.layout_spec.specs.declared.Known.{Known}
 use Rattle.region_report.specs.Reports.{ReportHeld}
 use Rattle.storage_report.specs.declared.storage.HeldStorage.{HeldStorage}
-use Rattle.storage_report.specs.Held.{IsHeld}
-use Rattle.storage_report.specs.Given.{IsReported, IsUnreported}
+use Rattle.storage_report.specs.Held.{IsLookedAt}
 use Rattle.report_run.specs.declared.plans.Asked.{Asked}
 use Rattle.report_run.specs.declared.failures.Failure.{Failure}
-use Rattle.report_run.specs.declared.failures.Failure.TheVariants.{Memory}
-use Rattle.report_run.specs.Failures.{stop_failure}
 use Rattle.report_run.specs.Messages.{Seen}
-use Rattle.report_run.specs.Plans.{map_of}
-use Rattle.report_run.specs.Images.{TellsLayout, IsNotTold, IsSoughtReport, IsNoSoughtReport}
-use Rattle.report_run.specs.Logs.{IsUnlooked}
-use Rattle.report_run.specs.Storages.{names_of, lines_on, IsNoStorage, IsLookedAt, IsStorageShown, IsStorageUnshown}
+use Rattle.report_run.specs.Images.{IsSoughtReport, IsNoSoughtReport}
+use Rattle.report_run.specs.Storages.{IsUnfound, IsStorageShown, IsStorageUnshown}
 use Rattle.report_run.specs.Storages.{IsUnloggedReport, IsNoUnloggedReport}
-use Rattle.report_run.proofs.ReportEnds.{settled}
-
--- ---- the look
-
-pub not_asked : (holds : Option (List ℕ)) (takes : Bool) → takes ≡ false → IsNoStorage takes holds
-not_asked None takes off = tt
-not_asked (Some image) takes off = λ e. (let n : ◌≡◌ {A = Bool} false true = sym off ∙ e in absurd (cc))
-
-no_storage : (takes : Bool) (holds : Option (List ℕ)) → IsHeld holds None → IsNoStorage takes holds
-no_storage takes None h = tt
-no_storage takes (Some image) h = λ e. h
-
-pub looked_at : (takes : Bool) (holds : Option (List ℕ)) (held : Option HeldStorage) → takes ≡ true
-    → IsHeld holds held → IsLookedAt takes holds held
-looked_at takes holds None on h = no_storage takes holds h
-looked_at takes holds (Some s) on h = (on, h)
-
--- ---- the report behind the lines
-
--- the lines that were told, with the count of faults as it was
-told_on : (asked : Asked) (path : List ℕ) (h : HeldStorage) (given between : Option (List ℕ)) (put0 put1 : ℕ)
-    (a b : Seen) (lines : List ℕ) → lines ≡ lines_on path h
-    → TellsLayout asked.format lines given between put0 put1 a b
-    → TellsLayout asked.format (lines_on path h) given between put0 put0 a b
-told_on asked path h given between put0 put1 a b lines e tells =
-    let kept : put1 ≡ put0 = settled asked.format lines given between put0 put1 a b tells in
-    subst (λ (p : ℕ). TellsLayout asked.format (lines_on path h) given between put0 p a b) kept
-    (subst (λ (t : List ℕ). TellsLayout asked.format t given between put0 put1 a b) e tells)
-
-pub behind_ok : (asked : Asked) (path : List ℕ) (h : HeldStorage) (given between now : Option (List ℕ))
-    (put0 put1 : ℕ) (a b : Seen) (lines names : List ℕ) (report : ReportHeld) → lines ≡ lines_on path h
-    → names ≡ names_of (map_of asked.map) → TellsLayout asked.format lines given between put0 put1 a b
-    → IsReported asked.format path h names asked.lines between now report
-    → IsStorageShown asked path h given now a b report
-behind_ok asked path h given between now put0 put1 a b lines names report e f tells is = record {
-  between = between;
-  faults = put0;
-  lines = told_on asked path h given between put0 put1 a b lines e tells;
-  reported = subst (λ (n : List ℕ). IsReported asked.format path h n asked.lines between now report) f is;
-}
-
-pub behind_err : (asked : Asked) (path : List ℕ) (h : HeldStorage) (given between now : Option (List ℕ))
-    (put0 put1 put2 : ℕ) (a b : Seen) (lines names : List ℕ) (stop : Stop) (why : Failure) → lines ≡ lines_on path h
-    → names ≡ names_of (map_of asked.map) → TellsLayout asked.format lines given between put0 put1 a b
-    → IsUnreported asked.format path h names asked.lines between now put1 put2 stop → why ≡ stop_failure stop
-    → IsStorageUnshown asked path h given now put0 put2 a b why
-behind_err asked path h given between now put0 put1 put2 a b lines names stop why e f tells is same =
-    inr (inr (record {
-      between = between;
-      lines = told_on asked path h given between put0 put1 a b lines e tells;
-      stop = stop;
-      cause = subst (λ (p : ℕ). IsUnreported asked.format path h (names_of (map_of asked.map)) asked.lines between now p
-          put2 stop) (settled asked.format lines given between put0 put1 a b tells)
-          (subst (λ (n : List ℕ). IsUnreported asked.format path h n asked.lines between now put1 put2 stop) f is);
-      why_is = same;
-    }))
-
-pub untold_lines : (asked : Asked) (path : List ℕ) (h : HeldStorage) (given now : Option (List ℕ)) (put0 put1 : ℕ)
-    (a b : Seen) (lines : List ℕ) (why : Failure) → lines ≡ lines_on path h
-    → IsNotTold asked.format lines given now put0 put1 a b why
-    → IsStorageUnshown asked path h given now put0 put1 a b why
-untold_lines asked path h given now put0 put1 a b lines why e is =
-    inr (inl (subst (λ (t : List ℕ). IsNotTold asked.format t given now put0 put1 a b why) e is))
-
-pub unbegun : (asked : Asked) (path : List ℕ) (h : HeldStorage) (given : Option (List ℕ)) (put0 put1 : ℕ) (a : Seen)
-    (why : Failure) → why ≡ Memory → IsStorageUnshown asked path h given given put0 put1 a a why
-unbegun asked path h given put0 put1 a why e = inl (record { why_is = e; unput = refl; silent = refl })
-
--- ---- the report of an image that is no text log
 
 module _ (asked : Asked) (known : Known) (path : List ℕ) (holds given now : Option (List ℕ)) (read0 read2 put0 put1 : ℕ)
   where
-    pub unread : (a : Seen) (why : Failure) → IsUnlooked read0 read2 why
+    pub unread : (a : Seen) (why : Failure) → IsUnfound asked.storages holds read0 read2 why
         → IsNoUnloggedReport asked known path holds read0 read2 given given put0 put1 a a why
     unread a why h = inl (record { cause = h; unput = refl; silent = refl })
 
@@ -104,7 +28,7 @@ module _ (asked : Asked) (known : Known) (path : List ℕ) (holds given now : Op
     by_storage storage a b (Err why) is h = inr (inl (record { storage = storage; held = is; cause = h }))
 
     pub by_layout : (same : Option (List ℕ)) (read1 : ℕ) (a b : Seen) (r : Result ReportHeld Failure)
-        → IsNoStorage asked.storages holds → same ≡ holds → read0 ≤ read1
+        → IsLookedAt asked.storages holds None → same ≡ holds → read0 ≤ read1
         → MatchResult r (IsSoughtReport asked known path same given now a b)
         (IsNoSoughtReport asked known path same read1 read2 given now put0 put1 a b)
         → MatchResult r (IsUnloggedReport asked known path holds given now a b)

@@ -1,5 +1,5 @@
 -- The report of one image, and why there is none
-use Rattle.std.specs.Prelude.{◌≡◌, ◌⊎◌, ◌≤◌, ℕ, List, Option, string_bytes}
+use Rattle.std.specs.Prelude.{◌≡◌, ◌⊎◌, ◌≤◌, ℕ, List, Option, Some, string_bytes}
 use Rattle.std.specs.Io.KnownBytes.{Appends}
 use Rattle.outside.specs.Outside.{Rose, AppendsFront}
 use Rattle.command_spec.specs.declared.Stop.{Stop}
@@ -7,7 +7,7 @@ use Rattle.layout_spec.specs.declared.Known.{Known}
 use Rattle.region_report.specs.Reports.{ReportHeld}
 use Rattle.report_tool.specs.declared.plan.Plan.{Plan}
 use Rattle.report_tool.specs.declared.showing.Format.{Format}
-use Rattle.report_tool.specs.declared.showing.Format.TheVariants.{Text}
+use Rattle.report_tool.specs.declared.showing.Format.TheVariants.{Text, Brief}
 use Rattle.report_tool.specs.Images.{IsReported, IsNotReported}
 use Rattle.report_entry.specs.declared.reports.HintedPlan.{HintedPlan}
 use Rattle.report_run.specs.declared.plans.Asked.{Asked}
@@ -17,9 +17,10 @@ use Rattle.report_run.specs.Failures.{stop_failure}
 use Rattle.report_run.specs.Messages.{Seen, IsTold}
 use Rattle.report_run.specs.Plans.{IsAskedPlan, IsNotSought}
 
--- ---- the lines on a layout: to standard output above a text, and else to standard error
+-- ---- the lines on a layout: to standard output with a text, and to standard error for JSON and a page; one line has
+-- none
 
-pub record IsAbove (lines : List ℕ) (given now : Option (List ℕ)) (before after : ℕ) (a b : Seen) : Type 0 where
+pub record IsBeside (lines : List ℕ) (given now : Option (List ℕ)) (before after : ℕ) (a b : Seen) : Type 0 where
   pub put : Appends given now lines
   pub no_fault : after ≡ before
   pub silent : b ≡ a
@@ -29,8 +30,14 @@ pub record IsAside (lines : List ℕ) (given now : Option (List ℕ)) (before af
   pub no_fault : after ≡ before
   pub told : IsTold lines a b
 
+pub record IsUntold (given now : Option (List ℕ)) (before after : ℕ) (a b : Seen) : Type 0 where
+  pub unput : now ≡ given
+  pub no_fault : after ≡ before
+  pub silent : b ≡ a
+
 abbrev pub TellsLayout : Format → List ℕ → Option (List ℕ) → Option (List ℕ) → ℕ → ℕ → Seen → Seen → Type 0
-TellsLayout Text lines given now before after a b = IsAbove lines given now before after a b
+TellsLayout Text lines given now before after a b = IsBeside lines given now before after a b
+TellsLayout Brief lines given now before after a b = IsUntold given now before after a b
 TellsLayout other lines given now before after a b = IsAside lines given now before after a b
 
 -- standard output failed
@@ -53,12 +60,10 @@ pub record IsStopped (format : Format) (path : List ℕ) (plan : Plan) (holds : 
   pub cause : IsNotReported format path plan stop holds read_before read_now given now put_before put_now
   pub why_is : why ≡ stop_failure stop
 
--- the same, of bytes in memory
-pub record IsStoppedAt (format : Format) (path : List ℕ) (plan : Plan) (holds given now : Option (List ℕ))
-    (put_before put_now : ℕ) (why : Failure) : Type 0 where
-  pub read_before : ℕ
-  pub read_now : ℕ
-  pub cause : IsStopped format path plan holds read_before read_now given now put_before put_now why
+-- the same, of bytes in memory, whose reading does not fail
+abbrev pub IsStoppedAt : Format → List ℕ → Plan → List ℕ → Option (List ℕ) → Option (List ℕ) → ℕ → ℕ → Failure → Type 0
+IsStoppedAt format path plan bytes given now put_before put_now why =
+    IsStopped format path plan (Some bytes) 0 0 given now put_before put_now why
 
 -- ---- an image whose layout is looked for
 
@@ -67,9 +72,9 @@ pub record IsSoughtReport (asked : Asked) (known : Known) (path : List ℕ) (hol
   pub told : HintedPlan
   pub planned : IsAskedPlan asked known path holds told
   pub between : Option (List ℕ)
+  pub reported : IsReported asked.format path told.plan holds given between report
   pub faults : ℕ
-  pub lines : TellsLayout asked.format (string_bytes told.hint) given between faults faults a b
-  pub reported : IsReported asked.format path told.plan holds between now report
+  pub lines : TellsLayout asked.format (string_bytes told.hint) between now faults faults a b
 
 -- there is no plan: nothing was given out
 pub record IsUnplanned (known : Known) (path : List ℕ) (holds : Option (List ℕ)) (read_before read_now : ℕ)
@@ -78,28 +83,30 @@ pub record IsUnplanned (known : Known) (path : List ℕ) (holds : Option (List �
   pub unput : now ≡ given
   pub silent : b ≡ a
 
--- or the lines on the layout failed
-pub record IsUntold (asked : Asked) (known : Known) (path : List ℕ) (holds given now : Option (List ℕ))
+-- or the lines on the layout failed, behind the report
+pub record IsUnended (asked : Asked) (known : Known) (path : List ℕ) (holds given now : Option (List ℕ))
     (put_before put_now : ℕ) (a b : Seen) (why : Failure) : Type 0 where
   pub told : HintedPlan
   pub planned : IsAskedPlan asked known path holds told
-  pub cause : IsNotTold asked.format (string_bytes told.hint) given now put_before put_now a b why
+  pub between : Option (List ℕ)
+  pub report : ReportHeld
+  pub reported : IsReported asked.format path told.plan holds given between report
+  pub cause : IsNotTold asked.format (string_bytes told.hint) between now put_before put_now a b why
 
--- or the report by the plan did, behind the lines
+-- or the report by the plan did
 pub record IsUnreported (asked : Asked) (known : Known) (path : List ℕ) (holds : Option (List ℕ))
     (read_before read_now : ℕ) (given now : Option (List ℕ)) (put_before put_now : ℕ) (a b : Seen) (why : Failure)
     : Type 0 where
   pub told : HintedPlan
   pub planned : IsAskedPlan asked known path holds told
-  pub between : Option (List ℕ)
-  pub lines : TellsLayout asked.format (string_bytes told.hint) given between put_before put_before a b
   pub read_between : ℕ
   pub later : read_before ≤ read_between
-  pub cause : IsStopped asked.format path told.plan holds read_between read_now between now put_before put_now why
+  pub cause : IsStopped asked.format path told.plan holds read_between read_now given now put_before put_now why
+  pub silent : b ≡ a
 
 abbrev pub IsNoSoughtReport : Asked → Known → List ℕ → Option (List ℕ) → ℕ → ℕ → Option (List ℕ) → Option (List ℕ)
     → ℕ → ℕ → Seen → Seen → Failure → Type 0
 IsNoSoughtReport asked known path holds read_before read_now given now put_before put_now a b why =
     IsUnplanned known path holds read_before read_now given now a b why
-    ⊎ (IsUntold asked known path holds given now put_before put_now a b why
+    ⊎ (IsUnended asked known path holds given now put_before put_now a b why
     ⊎ IsUnreported asked known path holds read_before read_now given now put_before put_now a b why)

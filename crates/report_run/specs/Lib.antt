@@ -1,8 +1,10 @@
 pub mod Failures
+pub mod ReadOnly
 pub mod Messages
 pub mod Plans
 pub mod Images
 pub mod Logs
+pub mod Packed
 pub mod Storages
 pub mod Reports
 pub mod Places

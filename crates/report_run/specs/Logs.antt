@@ -13,7 +13,7 @@ use Rattle.report_run.specs.declared.plans.Logs.{Logs}
 use Rattle.report_run.specs.declared.plans.Logs.TheVariants.{Never, Texts, All}
 use Rattle.report_run.specs.declared.failures.Failure.{Failure}
 use Rattle.report_run.specs.declared.failures.Failure.TheVariants.{Memory, Unread}
-use Rattle.report_run.specs.Images.{IsStopped}
+use Rattle.report_run.specs.Images.{IsStoppedAt}
 use Rattle.report_run.specs.Messages.{Seen}
 use Rattle.report_run.specs.Plans.{dressed, map_of}
 
@@ -81,16 +81,11 @@ pub record IsLogReport (asked : Asked) (path : List ℕ) (holds given now : Opti
       (Some log.region.items) given now report
 
 -- it was not reported: memory ran out before, or it stopped
-pub record IsLogStopped (asked : Asked) (path : List ℕ) (log : LogImage) (given now : Option (List ℕ))
-    (put_before put_now : ℕ) (why : Failure) : Type 0 where
-  pub read_before : ℕ
-  pub read_now : ℕ
-  pub cause : IsStopped asked.format path (dressed log.plan asked.lines (map_of asked.map)) (Some log.region.items)
-      read_before read_now given now put_before put_now why
-
 abbrev pub IsLogUnreported : Asked → List ℕ → LogImage → Option (List ℕ) → Option (List ℕ) → ℕ → ℕ → Failure → Type 0
 IsLogUnreported asked path log given now put_before put_now why =
-    ((why ≡ Memory) × (now ≡ given)) ⊎ IsLogStopped asked path log given now put_before put_now why
+    ((why ≡ Memory) × (now ≡ given))
+    ⊎ IsStoppedAt asked.format path (dressed log.plan asked.lines (map_of asked.map)) log.region.items given now
+    put_before put_now why
 
 -- why an image that may be a log was not reported as one
 pub record IsHeldUnreported (asked : Asked) (path : List ℕ) (holds given now : Option (List ℕ))

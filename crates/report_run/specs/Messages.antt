@@ -1,11 +1,17 @@
 -- What standard error is given
 use Rattle.std.specs.Prelude.{◌≡◌, ◌⊎◌, ℕ, Bool, true, false, List, [], ◌∷◌, codes, decimal, string_bytes, Option}
+use Rattle.std.specs.Prelude.{Some, None}
 use Rattle.std.specs.Io.KnownBytes.{Appends}
 use Rattle.outside.specs.Outside.{Rose, AppendsFront}
+use Rattle.psz_spec.specs.declared.SizeFault.{SizeFault}
+use Rattle.storage_words.specs.Division.{size_fault_text}
+use Rattle.report_spec.specs.declared.TextFault.{TextFault}
+use Rattle.report_spec.specs.Packed.{fault_words}
 use Rattle.report_run.specs.declared.failures.Failure.{Failure}
 use Rattle.report_run.specs.declared.failures.Failure.TheVariants.{Memory, Unopened, Unread, Unwritten, Short, NotFound}
 use Rattle.report_run.specs.declared.failures.Failure.TheVariants.{Unexplained, Unfinished, Unsaved}
-use Rattle.report_run.specs.declared.failures.Failure.TheVariants.{NotThere, NoRegion, Several, NoPlace, Beyond}
+use Rattle.report_run.specs.declared.failures.Failure.TheVariants.{NotThere, NoRegion, Several, NoPlace, Beyond, NoText}
+use Rattle.report_run.specs.declared.failures.Failure.TheVariants.{Undivided}
 
 -- what it was given, how often it failed, and whether something of a line was lost
 pub record Seen : Type 0 where
@@ -58,6 +64,14 @@ short_line path has needed =
     codes "oopsreport: " ∷ path ∷ codes ": it has " ∷ decimal has ∷ codes " bytes, and the layout needs "
     ∷ decimal needed ∷ (10 ∷ []) ∷ []
 
+-- the line on a packed record that does not inflate to its end
+abbrev pub part_line : List ℕ → List ℕ → List (List ℕ)
+part_line path words = codes "oopsreport: " ∷ path ∷ codes ": inflated in part: " ∷ words ∷ (10 ∷ []) ∷ []
+
+abbrev pub IsPartTold : List ℕ → Option TextFault → Seen → Seen → Type 0
+IsPartTold path None a b = b ≡ a
+IsPartTold path (Some fault) a b = AreTold (part_line path (fault_words fault)) a b
+
 -- the line on a memory that ends before its region
 abbrev pub beyond_line : List ℕ → ℕ → ℕ → ℕ → List (List ℕ)
 beyond_line path has size place =
@@ -68,6 +82,11 @@ beyond_line path has size place =
 abbrev pub several_line : List ℕ → List ℕ → List (List ℕ)
 several_line path places =
     codes "oopsreport: " ∷ path ∷ codes ": several regions; choose one by --at:" ∷ places ∷ (10 ∷ []) ∷ []
+
+-- the line on a storage that no kernel divides by the sizes that words give
+abbrev pub undivided_line : List ℕ → SizeFault → List (List ℕ)
+undivided_line path fault =
+    codes "oopsreport: " ∷ path ∷ codes ": the kernel takes no such sizes: " ∷ size_fault_text fault ∷ (10 ∷ []) ∷ []
 
 -- the line on the best layout, and the next
 abbrev pub IsBestTold : List ℕ → List (List ℕ) → Seen → Seen → Type 0
@@ -89,7 +108,10 @@ IsMessage path (Unfinished best) a b = IsBestTold (string_bytes best)
 IsMessage path (Unsaved why) a b = AreTold (line_of path (string_bytes why)) a b
 IsMessage path NotThere a b =
     AreTold (line_of path (codes "no layout explains what stands at that place; give it by --param")) a b
-IsMessage path NoRegion a b = AreTold (line_of path (codes "no region was found")) a b
+IsMessage path NoRegion a b =
+    AreTold (line_of path (codes "no region was found; --memory looks for ramoops regions alone")) a b
 IsMessage path (Several places) a b = AreTold (several_line path (string_bytes places)) a b
 IsMessage path NoPlace a b = AreTold (line_of path (codes "no place is named")) a b
 IsMessage path (Beyond has size place) a b = AreTold (beyond_line path has size place) a b
+IsMessage path NoText a b = AreTold (line_of path (codes "nothing of this packed record inflates")) a b
+IsMessage path (Undivided fault) a b = AreTold (undivided_line path fault) a b

@@ -1,6 +1,6 @@
 -- Places and regions in a whole memory, as they are told
 use Rattle.std.specs.Prelude.{ℕ, ◌+◌, List, [], ◌∷◌, ◌++◌, codes, decimal, flat_map, Option, Some, None}
-use Rattle.report_entry.specs.Hints.{hexadecimal}
+use Rattle.report_tool.specs.LayoutWords.{hexadecimal}
 use Rattle.found_regions.specs.declared.region.Region.{Region}
 use Rattle.found_regions.specs.declared.search.Finding.{Finding}
 use Rattle.found_regions.specs.declared.search.Finding.TheVariants.{Shown, Unexplained, Unseen}

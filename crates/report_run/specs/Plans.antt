@@ -1,5 +1,5 @@
 -- The plan by which an image is read whose layout is looked for
-use Rattle.std.specs.Prelude.{◌≡◌, ⊤, ℕ, List, take, length, Option, Some, None, IfSome}
+use Rattle.std.specs.Prelude.{◌≡◌, ⊤, ℕ, Bool, true, false, List, take, length, Option, Some, None, IfSome}
 use Rattle.std.specs.Global.{Vec}
 use Rattle.outside.specs.Outside.{Rose}
 use Rattle.zone_spec.specs.Numbers.{most_memory}
@@ -7,6 +7,8 @@ use Rattle.layout_spec.specs.declared.Known.{Known}
 use Rattle.layout_search.specs.declared.searching.Found.{Found}
 use Rattle.layout_search.specs.Answers.{IsEmpty, IsAnswer}
 use Rattle.report_tool.specs.declared.plan.Plan.{Plan}
+use Rattle.report_tool.specs.declared.showing.Format.{Format}
+use Rattle.report_tool.specs.declared.showing.Format.TheVariants.{Text, Json, Html, Brief}
 use Rattle.report_entry.specs.declared.reports.HintedPlan.{HintedPlan}
 use Rattle.report_entry.specs.declared.reports.Refusal.{Refusal}
 use Rattle.report_entry.specs.declared.reports.Refusal.TheVariants.{Unexplained as NotTaken, Unfinished as NotEnded}
@@ -19,6 +21,14 @@ use Rattle.report_run.specs.declared.failures.Failure.TheVariants.{Memory, Unrea
 abbrev pub map_of : Option (Vec ℕ) → Option (List ℕ)
 map_of None = None
 map_of (Some map) = Some map.items
+
+-- a text of a folder's files has one line for each
+abbrev pub format_for : Bool → Format → Format
+format_for true Text = Brief
+format_for true Json = Json
+format_for true Html = Html
+format_for true Brief = Brief
+format_for false format = format
 
 -- a plan with so many lines, and with the functions of this map
 abbrev pub dressed : Plan → ℕ → Option (List ℕ) → Plan

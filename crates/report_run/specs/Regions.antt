@@ -63,7 +63,7 @@ pub record IsPlaceStopped (asked : Asked) (plan : Plan) (name : List ℕ) (place
     : Type 0 where
   pub bytes : List ℕ
   pub held : IsHeld place plan.mem holds bytes
-  pub cause : IsStoppedAt asked.format name plan (Some bytes) given now put_before put_now why
+  pub cause : IsStoppedAt asked.format name plan bytes given now put_before put_now why
   pub unmade : made_now ≡ made
 
 -- or its records were not saved
@@ -82,7 +82,7 @@ IsPlaceUndone asked plan name place holds read_before read_now given now put_bef
     ⊎ (IsPlaceStopped asked plan name place holds given now put_before put_now made made_now why
     ⊎ IsPlaceUnkept asked plan name place holds given now made made_now why)
 
--- ---- a region that was found: the lines on it, and then its report
+-- ---- a region that was found: its report, and then the lines on it
 
 -- the lines on its layout, and a larger size that explains as much
 pub record AreRegionLines (name : List ℕ) (region : Region) (lines : List ℕ) : Type 0 where
@@ -105,36 +105,36 @@ pub record IsRegionDone (asked : Asked) (name : List ℕ) (region : Region) (hol
   pub told : RegionTold
   pub is_told : IsRegionTold asked name region told
   pub between : Option (List ℕ)
-  pub faults : ℕ
-  pub lines : TellsLayout asked.format (string_bytes told.lines) a.out between a.out_faults faults a.errors b.errors
-  pub done : IsPlaceDone asked told.plan name region.place holds between b.out a.files b.files
+  pub done : IsPlaceDone asked told.plan name region.place holds a.out between a.files b.files
+  pub lines : TellsLayout asked.format (string_bytes told.lines) between b.out a.out_faults b.out_faults a.errors
+      b.errors
 
 -- memory ran out before
 pub record IsRegionUntold (a b : State) (why : Failure) : Type 0 where
   pub why_is : why ≡ Memory
   pub same : b ≡ a
 
--- or the lines failed
-pub record IsRegionCut (asked : Asked) (name : List ℕ) (region : Region) (a b : State) (why : Failure) : Type 0 where
+-- or the lines failed, behind what was done
+pub record IsRegionCut (asked : Asked) (name : List ℕ) (region : Region) (holds : Option (List ℕ)) (a b : State)
+    (why : Failure) : Type 0 where
   pub told : RegionTold
   pub is_told : IsRegionTold asked name region told
-  pub cause : IsNotTold asked.format (string_bytes told.lines) a.out b.out a.out_faults b.out_faults a.errors b.errors
+  pub between : Option (List ℕ)
+  pub done : IsPlaceDone asked told.plan name region.place holds a.out between a.files b.files
+  pub cause : IsNotTold asked.format (string_bytes told.lines) between b.out a.out_faults b.out_faults a.errors b.errors
       why
-  pub unmade : b.files ≡ a.files
 
--- or what comes behind them did
+-- or that was not done
 pub record IsRegionStopped (asked : Asked) (name : List ℕ) (region : Region) (holds : Option (List ℕ))
     (read_before read_now : ℕ) (a b : State) (why : Failure) : Type 0 where
   pub told : RegionTold
   pub is_told : IsRegionTold asked name region told
-  pub between : Option (List ℕ)
-  pub faults : ℕ
-  pub lines : TellsLayout asked.format (string_bytes told.lines) a.out between a.out_faults faults a.errors b.errors
-  pub cause : IsPlaceUndone asked told.plan name region.place holds read_before read_now between b.out faults
+  pub cause : IsPlaceUndone asked told.plan name region.place holds read_before read_now a.out b.out a.out_faults
       b.out_faults a.files b.files why
+  pub silent : b.errors ≡ a.errors
 
 abbrev pub IsRegionUndone : Asked → List ℕ → Region → Option (List ℕ) → ℕ → ℕ → State → State → Failure → Type 0
 IsRegionUndone asked name region holds read_before read_now a b why =
     IsRegionUntold a b why
-    ⊎ (IsRegionCut asked name region a b why
+    ⊎ (IsRegionCut asked name region holds a b why
     ⊎ IsRegionStopped asked name region holds read_before read_now a b why)

@@ -1,5 +1,5 @@
 -- The report of any image, and why there is none
-use Rattle.std.specs.Prelude.{◌≡◌, ◌⊎◌, ◌≤◌, ℕ, List, Option}
+use Rattle.std.specs.Prelude.{◌≡◌, ◌⊎◌, ◌≤◌, ℕ, Bool, true, false, List, Option}
 use Rattle.layout_spec.specs.declared.Known.{Known}
 use Rattle.region_report.specs.Reports.{ReportHeld}
 use Rattle.report_tool.specs.declared.plan.Plan.{Plan}
@@ -10,6 +10,7 @@ use Rattle.report_run.specs.declared.plans.Asked.{Asked}
 use Rattle.report_run.specs.declared.failures.Failure.{Failure}
 use Rattle.report_run.specs.Messages.{Seen}
 use Rattle.report_run.specs.Images.{IsStopped}
+use Rattle.report_run.specs.Packed.{is_packed, IsPackedReport, IsNoPackedReport}
 use Rattle.report_run.specs.Logs.{IsNoLog, IsUnlooked, IsLogReport, IsHeldUnreported}
 use Rattle.report_run.specs.Storages.{IsUnloggedReport, IsNoUnloggedReport}
 
@@ -59,6 +60,21 @@ IsNoUnknownReport asked known path holds read_before read_now given now put_befo
     ⊎ (IsNotAsLog asked path holds given now put_before put_now a b why
     ⊎ IsNotUnlogged asked known path holds read_before read_now given now put_before put_now a b why)
 
+-- ---- an image whose layout is not given: a packed record, by its name, or what its bytes show
+
+abbrev pub IsUnlaidReport : Bool → Asked → Known → List ℕ → Option (List ℕ) → Option (List ℕ) → Option (List ℕ)
+    → Seen → Seen → ReportHeld → Type 0
+IsUnlaidReport true asked known path holds given now a b report = IsPackedReport asked path holds given now a b report
+IsUnlaidReport false asked known path holds given now a b report =
+    IsUnknownReport asked known path holds given now a b report
+
+abbrev pub IsNoUnlaidReport : Bool → Asked → Known → List ℕ → Option (List ℕ) → ℕ → ℕ → Option (List ℕ)
+    → Option (List ℕ) → ℕ → ℕ → Seen → Seen → Failure → Type 0
+IsNoUnlaidReport true asked known path holds read_before read_now given now put_before put_now a b why =
+    IsNoPackedReport asked path holds read_before read_now given now put_before put_now a b why
+IsNoUnlaidReport false asked known path holds read_before read_now given now put_before put_now a b why =
+    IsNoUnknownReport asked known path holds read_before read_now given now put_before put_now a b why
+
 -- ---- any image
 
 pub record IsGivenReport (asked : Asked) (plan : Plan) (path : List ℕ) (holds given now : Option (List ℕ)) (a b : Seen)
@@ -71,7 +87,7 @@ abbrev pub IsReport : Layouts → Asked → List ℕ → Option (List ℕ) → O
 IsReport (Given plan) asked path holds given now a b report =
     IsGivenReport asked plan path holds given now a b report
 IsReport (Sought known) asked path holds given now a b report =
-    IsUnknownReport asked known path holds given now a b report
+    IsUnlaidReport (is_packed asked.logs path) asked known path holds given now a b report
 
 pub record IsNoGivenReport (asked : Asked) (plan : Plan) (path : List ℕ) (holds : Option (List ℕ))
     (read_before read_now : ℕ) (given now : Option (List ℕ)) (put_before put_now : ℕ) (a b : Seen) (why : Failure)
@@ -84,4 +100,5 @@ abbrev pub IsNoReport : Layouts → Asked → List ℕ → Option (List ℕ) →
 IsNoReport (Given plan) asked path holds read_before read_now given now put_before put_now a b why =
     IsNoGivenReport asked plan path holds read_before read_now given now put_before put_now a b why
 IsNoReport (Sought known) asked path holds read_before read_now given now put_before put_now a b why =
-    IsNoUnknownReport asked known path holds read_before read_now given now put_before put_now a b why
+    IsNoUnlaidReport (is_packed asked.logs path) asked known path holds read_before read_now given now put_before put_now
+    a b why

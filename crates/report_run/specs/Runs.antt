@@ -1,5 +1,5 @@
 -- The run over files, one after another
-use Rattle.std.specs.Prelude.{◌≡◌, ◌⊎◌, ⊤, ℕ, nat_lt, Bool, true, false, not, ◌&&◌, ◌||◌, if◌then◌else◌, List}
+use Rattle.std.specs.Prelude.{◌≡◌, ◌⊎◌, ◌≤◌, ⊤, ℕ, nat_lt, Bool, true, false, not, ◌&&◌, ◌||◌, if◌then◌else◌, List}
 use Rattle.std.specs.Prelude.{length, Option, Some, None, ◌+◌, [], ◌∷◌, string_bytes}
 use Rattle.std.specs.declared.string.String.{String}
 use Rattle.std.specs.declared.alloc.Global.{Global}
@@ -71,33 +71,31 @@ IsContentUndone (Some whole) asked path holds read_before read_now a b why =
 pub record IsDone (asked : Asked) (path : List ℕ) (holds : Option (List ℕ)) (a b : State) : Type 0 where
   pub done : IsContentDone asked.memory asked path holds a b
 
--- it could not be opened: nothing was done
-pub record IsClosed (a b : State) (why : Failure) : Type 0 where
+-- it could not be opened: nothing was done. `read_before` and `read_now` count the files that could not be read
+pub record IsClosed (read_before read_now : ℕ) (a b : State) (why : Failure) : Type 0 where
   pub cause : IsUnopened why
+  pub unread : read_now ≡ read_before
   pub out_same : b.out ≡ a.out
   pub errors_same : b.errors ≡ a.errors
   pub files_same : b.files ≡ a.files
 
 -- or not all of what it holds was done
-pub record IsCutOff (asked : Asked) (path : List ℕ) (holds : Option (List ℕ)) (a b : State) (why : Failure)
-    : Type 0 where
-  pub read_before : ℕ
-  pub read_now : ℕ
-  pub cause : IsContentUndone asked.memory asked path holds read_before read_now a b why
-
-abbrev pub IsUndone : Asked → List ℕ → Option (List ℕ) → State → State → Failure → Type 0
-IsUndone asked path holds a b why = IsClosed a b why ⊎ IsCutOff asked path holds a b why
+abbrev pub IsUndone : Asked → List ℕ → Option (List ℕ) → ℕ → ℕ → State → State → Failure → Type 0
+IsUndone asked path holds read_before read_now a b why =
+    IsClosed read_before read_now a b why
+    ⊎ IsContentUndone asked.memory asked path holds read_before read_now a b why
 
 -- and its message was told
-pub record IsFailed (asked : Asked) (path : List ℕ) (holds : Option (List ℕ)) (a b : State) : Type 0 where
+pub record IsFailed (asked : Asked) (path : List ℕ) (holds : Option (List ℕ)) (read_before read_now : ℕ) (a b : State)
+    : Type 0 where
   pub why : Failure
   pub between : Seen
-  pub undone : IsUndone asked path holds a (record b { errors = between }) why
+  pub undone : IsUndone asked path holds read_before read_now a (record b { errors = between }) why
   pub told : IsMessage path why between b.errors
 
-abbrev pub IsPath : Bool → Asked → List ℕ → Option (List ℕ) → State → State → Type 0
-IsPath true asked path holds a b = IsDone asked path holds a b
-IsPath false asked path holds a b = IsFailed asked path holds a b
+abbrev pub IsPath : Bool → Asked → List ℕ → Option (List ℕ) → ℕ → ℕ → State → State → Type 0
+IsPath true asked path holds read_before read_now a b = IsDone asked path holds a b
+IsPath false asked path holds read_before read_now a b = IsFailed asked path holds read_before read_now a b
 
 -- ---- one of several files: one that failed is remembered
 
@@ -105,12 +103,13 @@ IsPath false asked path holds a b = IsFailed asked path holds a b
 abbrev pub is_counted : Asked → ℕ → Bool
 is_counted asked all = asked.counts && nat_lt 1 all
 
-pub record IsStep (asked : Asked) (i all : ℕ) (path : List ℕ) (holds : Option (List ℕ)) (a b : State) (was now : Bool)
-    : Type 0 where
+pub record IsStep (asked : Asked) (i all : ℕ) (path : List ℕ) (holds : Option (List ℕ)) (read_before read_now : ℕ)
+    (a b : State) (was now : Bool) : Type 0 where
+  pub later : read_before ≤ read_now
   pub between : Seen
   pub counted : IsCounted (is_counted asked all) i all a.errors between
   pub done : Bool
-  pub is_path : IsPath done asked path holds (record a { errors = between }) b
+  pub is_path : IsPath done asked path holds read_before read_now (record a { errors = between }) b
   pub failed : now ≡ (was || not done)
 
 -- the status is 0 if all was done, and standard error took every line
@@ -118,10 +117,11 @@ abbrev pub status_of : Bool → Bool → ℕ
 status_of failed is_lost = if failed || is_lost then 1 else 0
 
 -- the files at these paths, from number i on, of so many
-unfoldable pub AreSteps : Asked → (List ℕ → Wanted → Option (List ℕ)) → ℕ → ℕ → List (String Global) → State → Bool → State
-    → Bool → Type 0
-AreSteps asked content all i [] a was b now = (b ≡ a) × (now ≡ was)
-AreSteps asked content all i (path ∷ paths) a was b now =
-    (m : State) × (failed : Bool)
-    × IsStep asked i all (string_bytes path) (content (string_bytes path) (wanted asked.memory asked.layouts)) a m was failed
-    × AreSteps asked content all (i + 1) paths m failed b now
+unfoldable pub AreSteps : Asked → (List ℕ → Wanted → Option (List ℕ)) → ℕ → ℕ → List (String Global) → ℕ → State → Bool
+    → ℕ → State → Bool → Type 0
+AreSteps asked content all i [] read_before a was read_now b now = (read_now ≡ read_before) × (b ≡ a) × (now ≡ was)
+AreSteps asked content all i (path ∷ paths) read_before a was read_now b now =
+    (read_between : ℕ) × (m : State) × (failed : Bool)
+    × IsStep asked i all (string_bytes path) (content (string_bytes path) (wanted asked.memory asked.layouts))
+    read_before read_between a m was failed
+    × AreSteps asked content all (i + 1) paths read_between m failed read_now b now

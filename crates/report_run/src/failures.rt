@@ -4,6 +4,7 @@ ghost use Rattle.report_run.specs.Failures.{stop_failure, unread_failure};
 
 use command_spec::Stop;
 use found_regions::Unread;
+use psz_spec::SizeFault;
 use std::alloc::AllocError;
 
 /// Why an image is not reported, or its records are not saved.
@@ -24,6 +25,8 @@ pub enum Failure {
     Unexplained(String),
     /// The same, and not all layouts were tried.
     Unfinished(String),
+    /// Nothing of a packed record inflates.
+    NoText,
     /// A record was not saved, for this reason.
     Unsaved(String),
     /// No layout explains what stands at the place that is named.
@@ -36,6 +39,8 @@ pub enum Failure {
     NoPlace,
     /// The memory has so many bytes, and the region ends behind them.
     Beyond { has: u64, size: u32, place: u64 },
+    /// It is a storage, by words, and no kernel divides it by their sizes.
+    Undivided(SizeFault),
 }
 
 impl From<AllocError> for Failure {

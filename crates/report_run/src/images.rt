@@ -1,14 +1,17 @@
 // One image, from what holds it to the two outputs.
-ghost use Rattle.std.specs.Prelude.{◌≡◌, ◌≤◌, MatchResult};
+ghost use Rattle.std.specs.Prelude.{◌≡◌, ◌≤◌, OnOk, MatchResult};
 ghost use Rattle.report_run.specs.Messages.{seen};
 ghost use Rattle.report_run.specs.Images.{TellsLayout, IsNotTold, IsStopped, IsSoughtReport, IsNoSoughtReport};
 ghost use Rattle.report_run.specs.Storages.{IsUnloggedReport, IsNoUnloggedReport};
 ghost use Rattle.report_run.specs.Reports.{IsUnknownReport, IsNoUnknownReport, IsReport, IsNoReport};
+ghost use Rattle.report_run.specs.Reports.{IsUnlaidReport, IsNoUnlaidReport};
+ghost use Rattle.report_run.specs.Packed.{is_packed};
 ghost use Rattle.report_tool.specs.Images.{IsReported};
 
 use crate::failures::{Failure, stop_failure};
 use crate::logs::{held_log, report_log};
 use crate::messages::Messages;
+use crate::packed::{is_packed, report_packed};
 use crate::plans::{Asked, sought_plan};
 use crate::storages::{report_storage, storage_of};
 use outside::{Failed, Load, Sink};
@@ -17,7 +20,8 @@ use report_entry::Layouts;
 use report_tool::{Format, Known, Plan, report};
 use std::alloc::Global;
 
-/// Lines on the layout: above a text, and else to standard error, so that no layout is taken in silence.
+/// Lines on the layout: with a text, and to standard error for JSON and a page, so that none of them takes a layout in
+/// silence.
 pub fn tell_layout<O: Sink, E: Sink>(
     format: Format,
     lines: &str,
@@ -37,6 +41,7 @@ pub fn tell_layout<O: Sink, E: Sink>(
             Ok(()) => Ok(()),
             Err(Failed) => Err(Failure::Unwritten),
         },
+        Format::Brief => Ok(()),
         _ => {
             messages.tell(lines.as_bytes());
             Ok(())
@@ -59,6 +64,7 @@ pub fn report_by<M: Load, O: Sink>(
         (O.given out.old) (O.given out.new) (O.faults out.old) (O.faults out.new)) }
     ensures same { M.holds image.new ≡ M.holds image.old }
     ensures later { M.faults image.old ≤ M.faults image.new }
+    ensures faultless { OnOk result (O.faults out.new ≡ O.faults out.old) }
 {
     match report(alloc, plan, format, path, image, out) {
         Ok(report) => Ok(report),
@@ -85,10 +91,12 @@ fn sought_report<M: Load, O: Sink, E: Sink>(
         (seen (E.given messages.old.errors) (E.faults messages.old.errors) messages.old.is_lost)
         (seen (E.given messages.new.errors) (E.faults messages.new.errors) messages.new.is_lost)) }
     ensures same { M.holds image.new ≡ M.holds image.old }
+    ensures later { M.faults image.old ≤ M.faults image.new }
 {
     let told = sought_plan(alloc, asked, known, path, image)?;
+    let report = report_by(alloc, &told.plan, asked.format, path, image, out)?;
     tell_layout(asked.format, &told.hint, out, messages)?;
-    report_by(alloc, &told.plan, asked.format, path, image, out)
+    Ok(report)
 }
 
 // The report of an image that is no text log: as a storage, or by a layout that is looked for.
@@ -110,6 +118,7 @@ fn unlogged_report<M: Load, O: Sink, E: Sink>(
         (seen (E.given messages.old.errors) (E.faults messages.old.errors) messages.old.is_lost)
         (seen (E.given messages.new.errors) (E.faults messages.new.errors) messages.new.is_lost)) }
     ensures same { M.holds image.new ≡ M.holds image.old }
+    ensures later { M.faults image.old ≤ M.faults image.new }
 {
     match storage_of(alloc, asked.storages, image) {
         Ok(Some(storage)) => report_storage(alloc, asked, &storage, path, out, messages),
@@ -137,6 +146,7 @@ fn unknown_report<M: Load, O: Sink, E: Sink>(
         (seen (E.given messages.old.errors) (E.faults messages.old.errors) messages.old.is_lost)
         (seen (E.given messages.new.errors) (E.faults messages.new.errors) messages.new.is_lost)) }
     ensures same { M.holds image.new ≡ M.holds image.old }
+    ensures later { M.faults image.old ≤ M.faults image.new }
 {
     match held_log(alloc, asked.logs, image) {
         Ok(Some(log)) => report_log(alloc, asked, log, path, out),
@@ -145,9 +155,38 @@ fn unknown_report<M: Load, O: Sink, E: Sink>(
     }
 }
 
-/// The report of an image: the lines on its layout, where that is looked for, and then what the format shows. A text
-/// has the lines above it; else standard error is given them. A text log is reported as the region that holds it, and a
-/// storage of the kernel's pstore_zone as such.
+// The report of an image whose layout is not given: of a packed record its text.
+fn unlaid_report<M: Load, O: Sink, E: Sink>(
+    alloc: Global,
+    asked: &Asked,
+    known: &Known,
+    path: &str,
+    image: &mut M,
+    out: &mut O,
+    messages: &mut Messages<E>,
+) -> Result<Report, Failure>
+    ensures reported { let by = is_packed asked.now.logs path.now in
+        MatchResult result
+        (IsUnlaidReport by asked.now known.now path.now (M.holds image.old) (O.given out.old) (O.given out.new)
+        (seen (E.given messages.old.errors) (E.faults messages.old.errors) messages.old.is_lost)
+        (seen (E.given messages.new.errors) (E.faults messages.new.errors) messages.new.is_lost))
+        (IsNoUnlaidReport by asked.now known.now path.now (M.holds image.old) (M.faults image.old)
+        (M.faults image.new) (O.given out.old) (O.given out.new) (O.faults out.old) (O.faults out.new)
+        (seen (E.given messages.old.errors) (E.faults messages.old.errors) messages.old.is_lost)
+        (seen (E.given messages.new.errors) (E.faults messages.new.errors) messages.new.is_lost)) }
+    ensures same { M.holds image.new ≡ M.holds image.old }
+    ensures later { M.faults image.old ≤ M.faults image.new }
+{
+    if is_packed(asked.logs, path) {
+        report_packed(alloc, asked, path, image, out, messages)
+    } else {
+        unknown_report(alloc, asked, known, path, image, out, messages)
+    }
+}
+
+/// The report of an image: what the format shows, and then the lines on its layout, where that is looked for. A text has
+/// the lines below it; for JSON and a page standard error is given them. A text log is reported as the region that holds
+/// it, as is the text of a packed record, and a storage of the kernel's pstore_zone as such.
 pub fn report_image<M: Load, O: Sink, E: Sink>(
     alloc: Global,
     asked: &Asked,
@@ -165,9 +204,10 @@ pub fn report_image<M: Load, O: Sink, E: Sink>(
         (seen (E.given messages.old.errors) (E.faults messages.old.errors) messages.old.is_lost)
         (seen (E.given messages.new.errors) (E.faults messages.new.errors) messages.new.is_lost)) }
     ensures same { M.holds image.new ≡ M.holds image.old }
+    ensures later { M.faults image.old ≤ M.faults image.new }
 {
     match &asked.layouts {
         Layouts::Given(plan) => report_by(alloc, plan, asked.format, path, image, out),
-        Layouts::Sought(known) => unknown_report(alloc, asked, known, path, image, out, messages),
+        Layouts::Sought(known) => unlaid_report(alloc, asked, known, path, image, out, messages),
     }
 }

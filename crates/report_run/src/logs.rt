@@ -10,12 +10,12 @@ ghost use Rattle.report_tool.specs.Images.{IsReported};
 use crate::failures::{Failure, stop_failure, unread_failure};
 use crate::images::report_by;
 use crate::plans::{Asked, Logs, dressed};
+use crate::read_only::ReadOnly;
 use image_file::load_front;
 use log_image::{LogImage, log_image};
 use memory_regions::window;
-use outside::{Bytes, Load, Sink};
+use outside::{Load, Sink};
 use region_report::Report;
-use report_entry::Image;
 use std::alloc::Global;
 use text_log::is_text_log;
 
@@ -23,7 +23,7 @@ use text_log::is_text_log;
 const FRONT: u32 = 65_536;
 
 /// So many bytes of a log are read.
-const MOST_LOG: u32 = 268_435_456;
+pub const MOST_LOG: u32 = 268_435_456;
 
 const MOST: u64 = 268_435_456;
 
@@ -154,6 +154,6 @@ pub fn report_log<O: Sink>(
         boots: _,
     } = log;
     let plan = dressed(alloc, plan, asked.lines, &asked.map)?;
-    let mut image = Image::new(Bytes::from_vec(region));
+    let mut image = ReadOnly::new(region);
     report_by(alloc, &plan, asked.format, path, &mut image, out)
 }

@@ -1,12 +1,15 @@
 // Lines to standard error.
 ghost use Rattle.std.specs.Prelude.{◌≡◌, [], ◌∷◌, codes, false};
 ghost use Rattle.report_run.specs.Messages.{seen, IsTold, AreTold, place_line, IsCounted, IsEnded, line_of, short_line};
-ghost use Rattle.report_run.specs.Messages.{beyond_line, several_line};
+ghost use Rattle.report_run.specs.Messages.{beyond_line, several_line, part_line, IsPartTold, undivided_line};
 ghost use Rattle.report_run.specs.Messages.{IsBestTold, IsMessage};
 
 use crate::failures::Failure;
 use itoa::Buffer;
 use outside::Sink;
+use psz_spec::SizeFault;
+use region_report::TextFault;
+use storage_words::size_fault_text;
 
 /// Standard error. A piece of a line that it does not take costs no report, and is remembered.
 #[derive(Drop)]
@@ -105,6 +108,30 @@ impl<E: Sink> Messages<E> {
         self.tell(b"\n");
     }
 
+    // The line on a packed record that does not inflate to its end.
+    fn tell_words(&mut self, path: &str, words: &str)
+        ensures { AreTold (part_line path.now words.now)
+            (seen (E.given self.old.errors) (E.faults self.old.errors) self.old.is_lost)
+            (seen (E.given self.new.errors) (E.faults self.new.errors) self.new.is_lost) }
+    {
+        self.tell(b"oopsreport: ");
+        self.tell(path.as_bytes());
+        self.tell(b": inflated in part: ");
+        self.tell(words.as_bytes());
+        self.tell(b"\n");
+    }
+
+    /// Why a packed record does not inflate to its end, if it does not.
+    pub fn tell_part(&mut self, path: &str, fault: Option<TextFault>)
+        ensures { IsPartTold path.now fault
+            (seen (E.given self.old.errors) (E.faults self.old.errors) self.old.is_lost)
+            (seen (E.given self.new.errors) (E.faults self.new.errors) self.new.is_lost) }
+    {
+        if let Some(fault) = fault {
+            self.tell_words(path, fault.words());
+        }
+    }
+
     // The line on a memory that ends before its region.
     fn tell_beyond(&mut self, path: &str, has: u64, size: u32, place: u64)
         ensures { AreTold (beyond_line path.now has size place)
@@ -136,6 +163,19 @@ impl<E: Sink> Messages<E> {
         self.tell(path.as_bytes());
         self.tell(b": several regions; choose one by --at:");
         self.tell(places.as_bytes());
+        self.tell(b"\n");
+    }
+
+    // The line on a storage that no kernel divides by the sizes that words give.
+    fn tell_undivided(&mut self, path: &str, fault: SizeFault)
+        ensures { AreTold (undivided_line path.now fault)
+            (seen (E.given self.old.errors) (E.faults self.old.errors) self.old.is_lost)
+            (seen (E.given self.new.errors) (E.faults self.new.errors) self.new.is_lost) }
+    {
+        self.tell(b"oopsreport: ");
+        self.tell(path.as_bytes());
+        self.tell(b": the kernel takes no such sizes: ");
+        self.tell(size_fault_text(fault).as_bytes());
         self.tell(b"\n");
     }
 
@@ -182,6 +222,7 @@ impl<E: Sink> Messages<E> {
                     "not all layouts were tried; give it by --param, --cmdline or --dtb",
                 );
             }
+            Failure::NoText => self.tell_line(path, "nothing of this packed record inflates"),
             Failure::Unsaved(why) => self.tell_line(path, why),
             Failure::NotThere => {
                 self.tell_line(
@@ -189,10 +230,16 @@ impl<E: Sink> Messages<E> {
                     "no layout explains what stands at that place; give it by --param",
                 );
             }
-            Failure::NoRegion => self.tell_line(path, "no region was found"),
+            Failure::NoRegion => {
+                self.tell_line(
+                    path,
+                    "no region was found; --memory looks for ramoops regions alone",
+                );
+            }
             Failure::Several(places) => self.tell_several(path, places),
             Failure::NoPlace => self.tell_line(path, "no place is named"),
             Failure::Beyond { has, size, place } => self.tell_beyond(path, *has, *size, *place),
+            Failure::Undivided(fault) => self.tell_undivided(path, *fault),
         }
     }
 }

@@ -1,13 +1,13 @@
 // Places and regions in a whole memory, as they are told.
 ghost use Rattle.std.specs.Prelude.{◌≡◌, ◌++◌, string_bytes, IfOk, OnOk};
-ghost use Rattle.report_entry.specs.Hints.{hexadecimal};
+ghost use Rattle.report_tool.specs.LayoutWords.{hexadecimal};
 ghost use Rattle.report_run.specs.Places.{place_text, region_name, place_after, places_text, larger_line, finding_line};
 ghost use Rattle.report_run.specs.Places.{finding_lines, region_list, regions_in, unexplained_line, unseen_front, unseen_line};
 
 use found_regions::{Finding, Region};
 use std::alloc::{AllocError, Global};
 
-#[tactic(auto, unfolding(report_entry::specs::Hints::hexadecimal))]
+#[tactic(auto, unfolding(report_tool::specs::LayoutWords::hexadecimal))]
 fn hexadecimal(alloc: Global, n: u64) -> Result<String, AllocError>
     ensures { IfOk result (λ text. string_bytes text ≡ hexadecimal n) }
 {

@@ -1,13 +1,15 @@
 // The plan by which an image is read whose layout is looked for.
 ghost use Rattle.std.specs.Prelude.{◌≡◌, ◌≤◌, IfOk, MatchResult};
 ghost use Rattle.std.specs.Option.{option_copied};
-ghost use Rattle.report_run.specs.Plans.{dressed, map_of, untaken_failure, IsSoughtPlan, IsNotSought, IsAskedPlan};
+ghost use Rattle.report_run.specs.Plans.{format_for, dressed, map_of};
+ghost use Rattle.report_run.specs.Plans.{untaken_failure, IsSoughtPlan, IsNotSought, IsAskedPlan};
 
 use crate::failures::{Failure, stop_failure};
 use outside::Load;
 use report_entry::{HintedPlan, Layouts, Refusal, plan_found};
 use report_tool::{Format, Known, Plan, find};
 use std::alloc::{AllocError, Global};
+use storage_words::Storages;
 use symbols::Symbols;
 
 /// A copy of all of a machine's memory.
@@ -51,14 +53,24 @@ pub struct Asked {
     pub map: Option<Vec<u8>>,
     /// Which images are text logs, where no layout is known.
     pub logs: Logs,
-    /// Whether an image of which no layout is known, and that is no text log, is looked at for a storage.
-    pub storages: bool,
+    /// Which images of which no layout is known, and that are no text logs, are storages of the kernel's pstore_zone.
+    pub storages: Storages,
     /// If the files are whole memories, in which the regions are reported.
     pub memory: Option<WholeMemory>,
     /// Whether the records are saved.
     pub saves: bool,
     /// Whether standard error is told how many of several images are done.
     pub counts: bool,
+}
+
+/// The format in which files are reported: of a folder's files a text has one line each.
+pub fn format_for(has_folder: bool, format: Format) -> Format
+    ensures { result ≡ format_for has_folder format }
+{
+    match format {
+        Format::Text if has_folder => Format::Brief,
+        format => format,
+    }
 }
 
 /// A plan with so many lines, and with the functions of this map.

@@ -1,5 +1,5 @@
 // The report of a region in a whole memory.
-ghost use Rattle.std.specs.Prelude.{◌≡◌, ◌≤◌, string_bytes, IfOk, IfErr, Some, MatchResult};
+ghost use Rattle.std.specs.Prelude.{◌≡◌, ◌≤◌, string_bytes, IfOk, IfErr, OnOk, Some, MatchResult};
 ghost use Rattle.report_tool.specs.Images.{IsReported};
 ghost use Rattle.report_run.specs.Images.{IsStoppedAt, TellsLayout, IsNotTold};
 ghost use Rattle.report_run.specs.Messages.{seen};
@@ -12,12 +12,13 @@ use crate::images::{report_by, tell_layout};
 use crate::messages::Messages;
 use crate::places::larger_line;
 use crate::plans::{Asked, dressed};
+use crate::read_only::ReadOnly;
 use crate::records::{Records, save_asked};
 use found_regions::Region;
 use memory_regions::window;
-use outside::{Bytes, Load, Sink};
+use outside::{Load, Sink};
 use region_report::Report;
-use report_entry::{Image, taken_hint};
+use report_entry::taken_hint;
 use report_tool::{Format, Found, Plan};
 use std::alloc::{AllocError, Global};
 
@@ -54,12 +55,13 @@ fn report_bytes<O: Sink>(
     bytes: Vec<u8>,
     out: &mut O,
 ) -> Result<Report, Failure>
-    ensures { MatchResult result
+    ensures reported { MatchResult result
         (IsReported asked.now.format name.now plan.now (Some bytes.items) (O.given out.old) (O.given out.new))
-        (IsStoppedAt asked.now.format name.now plan.now (Some bytes.items) (O.given out.old) (O.given out.new)
+        (IsStoppedAt asked.now.format name.now plan.now bytes.items (O.given out.old) (O.given out.new)
         (O.faults out.old) (O.faults out.new)) }
+    ensures faultless { OnOk result (O.faults out.new ≡ O.faults out.old) }
 {
-    let mut image = Image::new(Bytes::from_vec(bytes));
+    let mut image = ReadOnly::new(bytes);
     report_by(alloc, plan, asked.format, name, &mut image, out)
 }
 
@@ -82,6 +84,7 @@ pub fn report_place<M: Load, O: Sink, F: Records>(
         (F.made records.old) (F.made records.new)) }
     ensures same { M.holds memory.new ≡ M.holds memory.old }
     ensures later { M.faults memory.old ≤ M.faults memory.new }
+    ensures faultless { OnOk result (O.faults out.new ≡ O.faults out.old) }
 {
     let bytes = bytes_at(alloc, memory, place, plan.mem())?;
     let report = report_bytes(alloc, asked, plan, name, bytes, out)?;
@@ -149,7 +152,7 @@ fn tell_region<O: Sink, E: Sink>(
     tell_layout(format, &told.lines, out, messages)
 }
 
-/// A region that was found, under a name: the lines on it, its report, and its records saved, if that is asked for.
+/// A region that was found, under a name: its report, its records saved, if that is asked for, and the lines on it.
 pub fn report_region<M: Load, O: Sink, E: Sink, F: Records>(
     alloc: Global,
     asked: &Asked,
@@ -174,7 +177,6 @@ pub fn report_region<M: Load, O: Sink, E: Sink, F: Records>(
     ensures later { M.faults memory.old ≤ M.faults memory.new }
 {
     let told = region_told(alloc, asked, name, region)?;
-    tell_region(asked.format, &told, out, messages)?;
     report_place(
         alloc,
         asked,
@@ -185,5 +187,6 @@ pub fn report_region<M: Load, O: Sink, E: Sink, F: Records>(
         out,
         records,
     )?;
+    tell_region(asked.format, &told, out, messages)?;
     Ok(())
 }

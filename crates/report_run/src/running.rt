@@ -1,5 +1,5 @@
 // Files, one after another.
-ghost use Rattle.std.specs.Prelude.{◌≡◌, ℕ, not, ◌||◌, List, Option, IfOk, IfErr, MatchResult, false, length};
+ghost use Rattle.std.specs.Prelude.{◌≡◌, ◌≤◌, ℕ, not, ◌||◌, List, Option, IfOk, IfErr, MatchResult, false, length};
 ghost use Rattle.report_run.specs.Messages.{seen};
 ghost use Rattle.report_run.specs.States.{state};
 ghost use Rattle.report_run.specs.Runs.{wanted, IsUnopened, IsImageDone, IsImageUndone, IsContentDone, IsContentUndone};
@@ -28,10 +28,20 @@ pub trait Images {
     // What the file at a path holds, of which so much is wanted, where that is told.
     ghost content: { Self → List ℕ → Wanted → Option (List ℕ) };
 
-    /// Opens the file at a path, of which so much is wanted.
+    // How often files that were closed have failed.
+    ghost faults: { Self → ℕ };
+
+    /// Opens the file at a path, of which so much is wanted. Its faults are counted on from those of the files before.
     fn open(&mut self, path: &str, wanted: Wanted) -> Result<Self::Image, Failure>
         ensures held { IfOk result (λ image. Self.Image.holds image ≡ content self.old path.now wanted) }
+        ensures counted { IfOk result (λ image. Self.Image.faults image ≡ faults self.old) }
         ensures why { IfErr result IsUnopened }
+        ensures same { content self.new ≡ content self.old }
+        ensures no_fault { faults self.new ≡ faults self.old };
+
+    /// Closes a file that was opened.
+    fn close(&mut self, image: Self::Image)
+        ensures counted { faults self.new ≡ Self.Image.faults image }
         ensures same { content self.new ≡ content self.old };
 }
 
@@ -56,12 +66,13 @@ fn one_image<M: Load, O: Sink, E: Sink, F: Records>(
     messages: &mut Messages<E>,
     records: &mut F,
 ) -> Result<(), Failure>
-    ensures { let before = state (O.given out.old) (O.faults out.old)
+    ensures done { let before = state (O.given out.old) (O.faults out.old)
         (seen (E.given messages.old.errors) (E.faults messages.old.errors) messages.old.is_lost) (F.made records.old) in
         let after = state (O.given out.new) (O.faults out.new)
         (seen (E.given messages.new.errors) (E.faults messages.new.errors) messages.new.is_lost) (F.made records.new) in
         MatchResult result (λ _. IsImageDone asked.now path.now (M.holds image.old) before after)
         (IsImageUndone asked.now path.now (M.holds image.old) (M.faults image.old) (M.faults image.new) before after) }
+    ensures later { M.faults image.old ≤ M.faults image.new }
 {
     let report = report_image(alloc, asked, path, image, out, messages)?;
     save_asked(asked.saves, &report, records)?;
@@ -79,7 +90,7 @@ fn one_content<M: Load, W: Watch, O: Sink, E: Sink, F: Records>(
     messages: &mut Messages<E>,
     records: &mut F,
 ) -> Result<(), Failure>
-    ensures { let before = state (O.given out.old) (O.faults out.old)
+    ensures done { let before = state (O.given out.old) (O.faults out.old)
         (seen (E.given messages.old.errors) (E.faults messages.old.errors) messages.old.is_lost) (F.made records.old) in
         let after = state (O.given out.new) (O.faults out.new)
         (seen (E.given messages.new.errors) (E.faults messages.new.errors) messages.new.is_lost) (F.made records.new) in
@@ -87,6 +98,7 @@ fn one_content<M: Load, W: Watch, O: Sink, E: Sink, F: Records>(
         (λ _. IsContentDone asked.now.memory asked.now path.now (M.holds image.old) before after)
         (IsContentUndone asked.now.memory asked.now path.now (M.holds image.old) (M.faults image.old)
         (M.faults image.new) before after) }
+    ensures later { M.faults image.old ≤ M.faults image.new }
 {
     match asked.memory {
         Some(whole) => report_memory(
@@ -113,13 +125,16 @@ fn one_file<I: Images, W: Watch, O: Sink, E: Sink, F: Records>(
         (seen (E.given messages.new.errors) (E.faults messages.new.errors) messages.new.is_lost) (F.made records.new) in
         let holds = I.content images.old path.now (wanted asked.now.memory asked.now.layouts) in
         MatchResult result (λ _. IsDone asked.now path.now holds before after)
-        (IsUndone asked.now path.now holds before after) }
+        (IsUndone asked.now path.now holds (I.faults images.old) (I.faults images.new) before after) }
     ensures same { I.content images.new ≡ I.content images.old }
+    ensures later { I.faults images.old ≤ I.faults images.new }
 {
     let mut image = images.open(path, wanted(asked.memory, &asked.layouts))?;
-    one_content(
+    let done = one_content(
         alloc, asked, path, &mut image, watch, out, messages, records,
-    )?;
+    );
+    images.close(image);
+    done?;
     Ok(())
 }
 
@@ -139,8 +154,9 @@ fn one_path<I: Images, W: Watch, O: Sink, E: Sink, F: Records>(
         let after = state (O.given out.new) (O.faults out.new)
         (seen (E.given messages.new.errors) (E.faults messages.new.errors) messages.new.is_lost) (F.made records.new) in
         let holds = I.content images.old path.now (wanted asked.now.memory asked.now.layouts) in
-        IsPath result asked.now path.now holds before after }
+        IsPath result asked.now path.now holds (I.faults images.old) (I.faults images.new) before after }
     ensures same { I.content images.new ≡ I.content images.old }
+    ensures later { I.faults images.old ≤ I.faults images.new }
 {
     match one_file(alloc, asked, path, images, watch, out, messages, records) {
         Ok(()) => true,
@@ -183,7 +199,7 @@ fn report_path<I: Images, W: Watch, O: Sink, E: Sink, F: Records>(
         let after = state (O.given out.new) (O.faults out.new)
         (seen (E.given messages.new.errors) (E.faults messages.new.errors) messages.new.is_lost) (F.made records.new) in
         let holds = I.content images.old path.now (wanted asked.now.memory asked.now.layouts) in
-        IsStep asked.now i all path.now holds before after failed result }
+        IsStep asked.now i all path.now holds (I.faults images.old) (I.faults images.new) before after failed result }
     ensures same { I.content images.new ≡ I.content images.old }
 {
     messages.tell_count(is_counted(asked, all), i, all);
@@ -198,8 +214,8 @@ pub fn status_of(failed: bool, is_lost: bool) -> u8
     if failed || is_lost { 1 } else { 0 }
 }
 
-/// Reports the files at these paths, images or whole memories, one after another, and saves their records, if that is asked for. One that fails
-/// is told on standard error, and ends nothing. Answers whether some image failed.
+/// Reports the files at these paths, images or whole memories, one after another, and saves their records, if that is
+/// asked for. One that fails is told on standard error, and ends nothing. Answers whether some image failed.
 pub fn run<I: Images, W: Watch, O: Sink, E: Sink, F: Records>(
     alloc: Global,
     asked: &Asked,
@@ -214,7 +230,8 @@ pub fn run<I: Images, W: Watch, O: Sink, E: Sink, F: Records>(
         (seen (E.given messages.old.errors) (E.faults messages.old.errors) messages.old.is_lost) (F.made records.old) in
         let after = state (O.given out.new) (O.faults out.new)
         (seen (E.given messages.new.errors) (E.faults messages.new.errors) messages.new.is_lost) (F.made records.new) in
-        AreSteps asked.now (I.content images.old) (length paths.now) 0 paths.now before false after result }
+        AreSteps asked.now (I.content images.old) (length paths.now) 0 paths.now (I.faults images.old) before false
+        (I.faults images.new) after result }
 {
     let mut failed = false;
     for i in 0..paths.len() {

@@ -1,9 +1,10 @@
 // An image that is a storage.
 ghost use Rattle.std.specs.Prelude.{◌≡◌, ◌≤◌, IfOk, IfErr, MatchResult};
-ghost use Rattle.report_run.specs.Logs.{IsUnlooked};
 ghost use Rattle.report_run.specs.Messages.{seen};
 ghost use Rattle.report_run.specs.Plans.{map_of};
-ghost use Rattle.report_run.specs.Storages.{names_of, IsLookedAt, IsStorageShown, IsStorageUnshown};
+ghost use Rattle.storage_report.specs.Held.{IsLookedAt};
+ghost use Rattle.report_run.specs.Failures.{no_storage_failure};
+ghost use Rattle.report_run.specs.Storages.{names_of, IsUnfound, IsStorageShown, IsStorageUnshown};
 
 use crate::failures::{Failure, stop_failure};
 use crate::images::tell_layout;
@@ -12,26 +13,33 @@ use crate::plans::Asked;
 use outside::{Load, Sink};
 use region_report::Report;
 use std::alloc::{AllocError, Global};
-use storage_report::{HeldStorage, held_storage, report};
+use storage_report::{HeldStorage, NoStorage, held_storage, report};
+use storage_words::Storages;
 use symbols::Symbols;
+
+fn no_storage_failure(none: NoStorage) -> Failure
+    ensures { result ≡ no_storage_failure none }
+{
+    match none {
+        NoStorage::Stopped(stop) => stop_failure(stop),
+        NoStorage::Undivided(fault) => Failure::Undivided(fault),
+    }
+}
 
 /// The storage that an image is, if such are looked for.
 pub fn storage_of<M: Load>(
     alloc: Global,
-    takes: bool,
+    storages: Storages,
     image: &mut M,
 ) -> Result<Option<HeldStorage>, Failure>
-    ensures looked { IfOk result (IsLookedAt takes (M.holds image.old)) }
-    ensures unlooked { IfErr result (IsUnlooked (M.faults image.old) (M.faults image.new)) }
+    ensures looked { IfOk result (IsLookedAt storages (M.holds image.old)) }
+    ensures unlooked { IfErr result (IsUnfound storages (M.holds image.old) (M.faults image.old) (M.faults image.new)) }
     ensures same { M.holds image.new ≡ M.holds image.old }
     ensures later { M.faults image.old ≤ M.faults image.new }
 {
-    if !takes {
-        return Ok(None);
-    }
-    match held_storage(alloc, image) {
+    match held_storage(alloc, storages, image) {
         Ok(held) => Ok(held),
-        Err(stop) => Err(stop_failure(stop)),
+        Err(none) => Err(no_storage_failure(none)),
     }
 }
 
@@ -45,7 +53,7 @@ fn functions(alloc: Global, map: &Option<Vec<u8>>) -> Result<Symbols, AllocError
     }
 }
 
-/// The report of a storage, behind the lines on it.
+/// The report of a storage, and then the lines on it.
 pub fn report_storage<O: Sink, E: Sink>(
     alloc: Global,
     asked: &Asked,
@@ -65,9 +73,10 @@ pub fn report_storage<O: Sink, E: Sink>(
 {
     let lines = held.lines(alloc, path)?;
     let symbols = functions(alloc, &asked.map)?;
+    let report = match report(alloc, held, &symbols, asked.lines, asked.format, path, out) {
+        Ok(report) => report,
+        Err(stop) => return Err(stop_failure(stop)),
+    };
     tell_layout(asked.format, &lines, out, messages)?;
-    match report(alloc, held, &symbols, asked.lines, asked.format, path, out) {
-        Ok(report) => Ok(report),
-        Err(stop) => Err(stop_failure(stop)),
-    }
+    Ok(report)
 }

@@ -3,7 +3,7 @@ ghost use Rattle.std.specs.Prelude.{Some, None};
 
 use outside::{Bytes, Calls, MemSink};
 use region_report::Report;
-use report_entry::{Image, Layouts};
+use report_entry::Layouts;
 use report_run::*;
 use report_tool::{Format, Known, known};
 use std::alloc::Global;
@@ -17,13 +17,17 @@ struct Held {
 }
 
 impl Images for Held {
-    type Image = Image;
+    type Image = ReadOnly;
 
     ghost content = { λ s _ _. Some s.bytes };
 
-    fn open(&mut self, _path: &str, _wanted: Wanted) -> Result<Image, Failure> {
-        Ok(Image::new(Bytes::copy_of(self.alloc, self.bytes.as_slice())?))
+    ghost faults = { λ _. 0 };
+
+    fn open(&mut self, _path: &str, _wanted: Wanted) -> Result<ReadOnly, Failure> {
+        Ok(ReadOnly::new(Vec::from_slice(self.alloc, self.bytes.as_slice())?))
     }
+
+    fn close(&mut self, _image: ReadOnly) {}
 }
 
 // A folder that takes every record.
@@ -77,7 +81,7 @@ fn asked(
         lines: 10,
         map: None,
         logs,
-        storages: false,
+        storages: Storages::Never,
         memory,
         saves,
         counts: false,
@@ -96,9 +100,9 @@ fn sink(alloc: Global) -> Result<MemSink, Fail> {
     Ok(MemSink::new(alloc, 65_536, Calls::new(alloc, &[])?)?)
 }
 
-fn run_on(alloc: Global, asked: &Asked, bytes: Vec<u8>) -> Result<Done, Fail> {
+fn run_at(alloc: Global, asked: &Asked, path: &str, bytes: Vec<u8>) -> Result<Done, Fail> {
     let mut paths = Vec::new(alloc);
-    paths.push(String::from_str(alloc, "file")?)?;
+    paths.push(String::from_str(alloc, path)?)?;
     let mut held = Held {
         alloc,
         bytes: Bytes::from_vec(bytes),
@@ -121,6 +125,10 @@ fn run_on(alloc: Global, asked: &Asked, bytes: Vec<u8>) -> Result<Done, Fail> {
         errors: Vec::from_slice(alloc, messages.errors.bytes())?,
         has_failed,
     })
+}
+
+fn run_on(alloc: Global, asked: &Asked, bytes: Vec<u8>) -> Result<Done, Fail> {
+    run_at(alloc, asked, "file", bytes)
 }
 
 // A memory of four pages, with a console of three bytes at each of these.
@@ -150,8 +158,8 @@ fn a_region_of_a_memory(rt: HostRuntime) -> Result<(), Fail> {
     let known = one_console(rt.alloc())?;
     let asked = asked(known, Format::Text, Logs::Never, Some(WHOLE), false);
     let done = run_on(rt.alloc(), &asked, memory_of(rt.alloc(), &[2])?)?;
-    let front = "file@0xa000: 4096 bytes; layout found: ";
-    let is_told = begins_and_has(&done.out, front, "\nzone")?;
+    let line = "\nfile@0xa000: 4096 bytes; layout found: ";
+    let is_told = begins_and_has(&done.out, "no death: ", line)?;
     assert!(rt; is_told && done.errors.is_empty() && !done.has_failed);
     Ok(())
 }
@@ -173,7 +181,7 @@ fn refusals_of_a_memory(rt: HostRuntime) -> Result<(), Fail> {
             Format::Text,
             WHOLE,
             [].as_slice(),
-            "oopsreport: file: no region was found\n",
+            "oopsreport: file: no region was found; --memory looks for ramoops regions alone\n",
         ),
         (
             Format::Text,
@@ -205,6 +213,40 @@ fn logs_with_zero_bytes(rt: HostRuntime) -> Result<(), Fail> {
         assert!(rt; done.has_failed != is_log);
         let has_panic = begins_and_has(&done.out, "died: Kernel panic", "console-ramoops-0\n")?;
         assert!(rt; has_panic == is_log);
+    }
+    Ok(())
+}
+
+// What zlib makes of `<1>[    1.000000] kernel BUG at x.c:1!` and a newline, raw.
+const PACKED: [u8; 36] = [
+    0xb3, 0x31, 0xb4, 0x8b, 0x56, 0x00, 0x02, 0x43, 0x3d, 0x03, 0x30, 0x88, 0x55, 0xc8, 0x4e, 0x2d,
+    0xca, 0x4b, 0xcd, 0x51, 0x70, 0x0a, 0x75, 0x57, 0x48, 0x2c, 0x51, 0xa8, 0xd0, 0x4b, 0xb6, 0x32,
+    0x54, 0xe4, 0x02, 0x00,
+];
+
+#[test]
+fn packed_records(rt: HostRuntime) -> Result<(), Fail> {
+    for (len, front, words) in [
+        (36, "died: kernel BUG at x.c:1!\n", ""),
+        (
+            30,
+            "died: kernel BUG at x",
+            "oopsreport: a.enc.z: inflated in part: end of input\n",
+        ),
+        (
+            1,
+            "",
+            "oopsreport: a.enc.z: nothing of this packed record inflates\n",
+        ),
+    ] {
+        let asked = asked(known(&[]), Format::Text, Logs::Texts, None, false);
+        let mut bytes = Vec::from_slice(rt.alloc(), &PACKED)?;
+        bytes.truncate(len);
+        let done = run_at(rt.alloc(), &asked, "a.enc.z", bytes)?;
+        assert!(rt;
+            done.out.starts_with(front.as_bytes()) && done.errors.as_slice() == words.as_bytes()
+        );
+        assert!(rt; done.has_failed == done.out.is_empty());
     }
     Ok(())
 }

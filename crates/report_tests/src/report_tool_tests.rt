@@ -38,15 +38,25 @@ fn store(alloc: Global, len: usize) -> Result<MemStore, Fail> {
     Ok(MemStore::new(bytes, 8192, fails)?)
 }
 
-// The report of a store of so many bytes, in a format.
-fn reported(alloc: Global, format: Format, len: usize) -> Result<Result<Vec<u8>, Stop>, Fail> {
-    let plan = plan_of(alloc, console(alloc, "mem_size=4096")?)?;
+// The report of a store of so many bytes by a plan, in a format.
+fn reported_by(
+    alloc: Global,
+    plan: &Plan,
+    format: Format,
+    len: usize,
+) -> Result<Result<Vec<u8>, Stop>, Fail> {
     let mut image = store(alloc, len)?;
     let mut out = MemSink::new(alloc, 65536, Calls::new(alloc, &[])?)?;
-    match report(alloc, &plan, format, "a.img", &mut image, &mut out) {
+    match report(alloc, plan, format, "a.img", &mut image, &mut out) {
         Ok(_) => Ok(Ok(Vec::from_slice(alloc, out.bytes())?)),
         Err(stop) => Ok(Err(stop)),
     }
+}
+
+// The report of a store of so many bytes, in a format.
+fn reported(alloc: Global, format: Format, len: usize) -> Result<Result<Vec<u8>, Stop>, Fail> {
+    let plan = plan_of(alloc, console(alloc, "mem_size=4096")?)?;
+    reported_by(alloc, &plan, format, len)
 }
 
 #[test]
@@ -59,7 +69,7 @@ fn each_format(rt: HostRuntime) -> Result<(), Fail> {
         ),
         (
             Format::Json,
-            "{\"death\":null,\"end\":{\"ending\":\"broken_off\",\"line\":\"a<\",\"reason\":null,\"record\":\"console-ramoops-0\"},\
+            "{\"better\":null,\"death\":null,\"end\":{\"ending\":\"broken_off\",\"line\":\"a<\",\"reason\":null,\"record\":\"console-ramoops-0\"},\
 \"machine\":{\"cmdline\":null,\"hardware\":null,\"modules\":null,\"version\":null},\"parameters\":{\"block_size\":128,",
             "\"text\":\"a<\\n\"",
         ),
@@ -68,12 +78,46 @@ fn each_format(rt: HostRuntime) -> Result<(), Fail> {
             "<!doctype html>\n<html lang=\"en\">\n",
             "<pre class=\"log\" id=\"console-ramoops-0\">\na&lt;\n</pre>",
         ),
+        (
+            Format::Brief,
+            "a.img  -  no death: the log breaks off; the machine hung, lost power or was reset\n",
+            "",
+        ),
     ] {
         let Ok(shown) = reported(rt.alloc(), format, 4096)? else {
             return Err(Fail::from("the image was reported"));
         };
         let shown = str::from_utf8(&shown)?;
         assert!(rt; shown.starts_with(front) && shown.contains(piece));
+    }
+    Ok(())
+}
+
+// A layout by words with parity, which the image lacks: no zone has a log.
+fn misled(alloc: Global, format: Format) -> Result<Vec<u8>, Fail> {
+    let mut words = console(alloc, "mem_size=4096")?;
+    words.push(String::from_str(alloc, "ecc=32")?)?;
+    let plan = plan_of(alloc, words)?;
+    match reported_by(alloc, &plan, format, 4096)? {
+        Ok(shown) => Ok(shown),
+        Err(_) => Err(Fail::from("the image was reported")),
+    }
+}
+
+#[test]
+fn words_that_are_wrong(rt: HostRuntime) -> Result<(), Fail> {
+    for (format, piece) in [
+        (
+            Format::Text,
+            "by these words alone: record_size=0 console_size=4096 ftrace_size=0 pmsg_size=0 ecc=0\n",
+        ),
+        (
+            Format::Json,
+            "{\"better\":\"record_size=0 console_size=4096 ftrace_size=0 pmsg_size=0 ecc=0\",",
+        ),
+    ] {
+        let shown = misled(rt.alloc(), format)?;
+        assert!(rt; str::from_utf8(&shown)?.contains(piece));
     }
     Ok(())
 }

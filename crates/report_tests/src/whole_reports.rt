@@ -68,7 +68,7 @@ pub fn text_on(alloc: Global, path: &[u8], params: &Params, image: Vec<u8>) -> R
         return Err(Fail::from("the image has another size"));
     }
     let report = report_of(alloc, &zones, &Symbols::none(alloc), image)?;
-    Ok(text(alloc, path, zones.zones(), &report, 10)?)
+    Ok(text(alloc, path, zones.zones(), &report, 10, b"")?)
 }
 
 /// The line of JSON of a report.
@@ -83,7 +83,7 @@ pub fn line_of(
     if report.logs().len() as usize != zones.len() || report.parts().len() != zones.len() {
         return Err(Fail::from("the report has other zones"));
     }
-    Ok(json(alloc, path, &Division::Region(*params), zones, report)?)
+    Ok(json(alloc, path, &Division::Region(*params), zones, report, "")?)
 }
 
 /// Its page.

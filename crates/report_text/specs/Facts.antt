@@ -166,6 +166,10 @@ warning_parts (ManyBad bad) =
 abbrev pub warnings_parts : List Warning → List Part
 warnings_parts warnings = flat_map warning_parts warnings
 
+-- the words of a layout that explains the image better, if there are any
+abbrev pub better_parts : List ℕ → List Part
+better_parts words = bytes_fact (codes "  careful    another layout explains it better, by these words alone: ") words
+
 -- ---- one line
 
 abbrev pub short_time : Option Time → List Part

@@ -12,7 +12,7 @@ use Rattle.report_text.specs.Pieces.{Part, Words, Count, Bytes, parts_text}
 use Rattle.report_text.specs.Tables.{zone_row, record_row}
 use Rattle.report_text.specs.Tails.{tail_parts}
 use Rattle.report_text.specs.Around.{around_parts}
-use Rattle.report_text.specs.Facts.{first_parts, warnings_parts, short_parts}
+use Rattle.report_text.specs.Facts.{first_parts, warnings_parts, better_parts, short_parts}
 use Rattle.report_text.specs.Earlier.{earlier_parts}
 
 -- the newest dump, or without one the console
@@ -48,23 +48,24 @@ tails records =
     ++ tail_parts (codes "\nlast lines of Android's log\n") 10 (android_log_of records)
 
 -- why the machine died and what is known of it, warnings, the lines that tell it, and earlier deaths
-abbrev pub answer_parts : List ℕ → ℕ → ReportHeld → Option DeathTold → List Part
-answer_parts title most r told =
-    first_parts title (signature_told told) r.records told ++ warnings_parts (warnings_by r told) ++ told_lines most r.records told
-    ++ others_parts r.records told
+abbrev pub answer_parts : List ℕ → ℕ → List ℕ → ReportHeld → Option DeathTold → List Part
+answer_parts title most better r told =
+    first_parts title (signature_told told) r.records told ++ warnings_parts (warnings_by r told)
+    ++ better_parts better ++ told_lines most r.records told ++ others_parts r.records told
 
 -- and then the tables, and last lines
-abbrev pub all_parts : List ℕ → ℕ → ReportHeld → Option DeathTold → List Part
-all_parts title most r told =
-    answer_parts title most r told ++ zone_table r.logs (length r.records) ++ record_table r.records
+abbrev pub all_parts : List ℕ → ℕ → List ℕ → ReportHeld → Option DeathTold → List Part
+all_parts title most better r told =
+    answer_parts title most better r told ++ zone_table r.logs (length r.records) ++ record_table r.records
     ++ tails r.records
 
--- the text under this title, with at most so many lines below the one that tells
-unfoldable pub text_of : List ℕ → ℕ → ReportHeld → List ℕ
-text_of title most r = parts_text r.origin (all_parts title most r (death_told r.records))
+-- the text under this title, with at most so many lines below the one that tells, and with the words of a layout that
+-- explains the image better
+unfoldable pub text_of : List ℕ → ℕ → List ℕ → ReportHeld → List ℕ
+text_of title most better r = parts_text r.origin (all_parts title most better r (death_told r.records))
 
-abbrev pub IsTextOf : List ℕ → ℕ → ReportHeld → List ℕ → Type 0
-IsTextOf title most report text = text ≡ text_of title most report
+abbrev pub IsTextOf : List ℕ → ℕ → List ℕ → ReportHeld → List ℕ → Type 0
+IsTextOf title most better report text = text ≡ text_of title most better report
 
 -- one line: the title, the time of the record that tells, and the signature; or how the log ends
 abbrev pub line_parts : List ℕ → ReportHeld → Option DeathTold → List Part

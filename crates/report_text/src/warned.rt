@@ -2,7 +2,9 @@
 ghost use Rattle.std.specs.Prelude.{◌≡◌, ◌++◌, OnOk};
 ghost use Rattle.report_text.specs.Pieces.{parts};
 ghost use Rattle.report_text.specs.Facts.{counted_warning, lacking, plain_warning, warning_parts, warnings_parts};
+ghost use Rattle.report_text.specs.Facts.{better_parts};
 
+use crate::facts::add_bytes;
 use crate::pieces::{Piece, add};
 use region_report::Warning;
 use std::alloc::AllocError;
@@ -81,4 +83,15 @@ pub fn add_warnings(pieces: &mut Vec<Piece<'_>>, warnings: &[Warning]) -> Result
         add_warning(pieces, *warning)?;
     }
     Ok(())
+}
+
+/// Adds the words of a layout that explains the image better, if there are any.
+pub fn add_better<'a>(pieces: &mut Vec<Piece<'a>>, better: &'a [u8]) -> Result<(), AllocError>
+    ensures { OnOk result (parts pieces.new.items ≡ parts pieces.old.items ++ better_parts better.entry.now) }
+{
+    add_bytes(
+        pieces,
+        "  careful    another layout explains it better, by these words alone: ",
+        better,
+    )
 }

@@ -17,7 +17,7 @@ use crate::earlier::add_others;
 use crate::lines::{add_tail, add_tails};
 use crate::pieces::{Piece, add, render};
 use crate::records::add_records;
-use crate::warned::add_warnings;
+use crate::warned::{add_better, add_warnings};
 use crate::zones::add_zones;
 use outside::Bytes;
 use region_report::{
@@ -64,15 +64,17 @@ fn add_answer<'a>(
     report: &'a Report,
     told: Option<Telling<'a>>,
     most: usize,
+    better: &'a [u8],
 ) -> Result<(), AllocError>
     requires { signature.now ≡ signature_told (told_in told) }
     ensures { OnOk result (parts pieces.new.items ≡ parts pieces.old.items
-        ++ answer_parts title.entry.now most report.entry.now (told_in told.entry)) }
+        ++ answer_parts title.entry.now most better.entry.now report.entry.now (told_in told.entry)) }
 {
     let records = report.records();
     let warnings = warnings_by(alloc, report, told)?;
     add_first(pieces, title, signature, records, told)?;
     add_warnings(pieces, warnings.as_slice())?;
+    add_better(pieces, better)?;
     add_lines(alloc, pieces, most, records, told)?;
     add_others(alloc, pieces, records, told)
 }
@@ -85,16 +87,26 @@ fn all_pieces<'a>(
     report: &'a Report,
     told: Option<Telling<'a>>,
     most: usize,
+    better: &'a [u8],
 ) -> Result<Vec<Piece<'a>>, AllocError>
     requires signature { signature.now ≡ signature_told (told_in told) }
     requires zones { zones.now ≡ report.now.logs.zones }
     requires readings { length report.now.logs.readings ≡ length zones.now }
     ensures { IfOk result (λ pieces. parts pieces.items
-        ≡ all_parts title.entry.now most report.entry.now (told_in told.entry)) }
+        ≡ all_parts title.entry.now most better.entry.now report.entry.now (told_in told.entry)) }
 {
     let records = report.records();
     let mut pieces = Vec::new(alloc);
-    add_answer(alloc, &mut pieces, title, signature, report, told, most)?;
+    add_answer(
+        alloc,
+        &mut pieces,
+        title,
+        signature,
+        report,
+        told,
+        most,
+        better,
+    )?;
     add_zones(&mut pieces, zones, report.logs(), records.len())?;
     add_records(&mut pieces, records)?;
     add_tails(&mut pieces, records)?;
@@ -102,9 +114,10 @@ fn all_pieces<'a>(
 }
 
 /// The text of the report of these zones, of an image of this title, such as its path: why the machine died and what is
-/// known of it, warnings, the lines that tell it, earlier deaths, the zones, the records, and the last lines of the
-/// console and of Android's log. Below the last line that tells there are at least so many lines. No byte of it but
-/// printable ASCII, tabs and newlines, whatever the title and the records are.
+/// known of it, warnings, the words of a layout that explains the image better, if there are any, the lines that tell it,
+/// earlier deaths, the zones, the records, and the last lines of the console and of Android's log. Below the last line
+/// that tells there are at least so many lines. No byte of it but printable ASCII, tabs and newlines, whatever the title
+/// and the records are.
 #[tactic(auto, unfolding(crate::specs::Whole::text_of))]
 pub fn text(
     alloc: Global,
@@ -112,10 +125,11 @@ pub fn text(
     zones: &[Zone],
     report: &Report,
     most: usize,
+    better: &[u8],
 ) -> Result<Bytes, AllocError>
     requires zones { zones.now ≡ report.now.logs.zones }
     requires readings { length report.now.logs.readings ≡ length zones.now }
-    ensures text { IfOk result (IsTextOf title.now most report.now) }
+    ensures text { IfOk result (IsTextOf title.now most better.now report.now) }
     ensures visible { IfOk result (λ text. list_all is_visible text ≡ true) }
 {
     let told = death_told(report.records());
@@ -128,6 +142,7 @@ pub fn text(
         report,
         told,
         most,
+        better,
     )?;
     let text = render(alloc, report.origin(), pieces.as_slice())?;
     Ok(Bytes::from_vec(text))

@@ -1,4 +1,6 @@
--- The lemma on a whole report, and those on a version's words. `report` and `ftrace_tag` cite them.
+-- The lemmas on whole reports, on words of a better layout, and on a version's words. `report`, `words_of` and `ftrace_tag`
+-- cite them.
+mod BetterWords
 mod PlanZones
 mod Splits
 mod Tags

@@ -8,6 +8,7 @@ use Rattle.command_spec.specs.declared.Stop.TheVariants.{Memory, ImageFault, Sho
 use Rattle.image_file.specs.Loading.{LoadStop}
 use Rattle.report_tool.specs.declared.plan.Plan.{Plan}
 use Rattle.report_tool.specs.declared.showing.Format.{Format}
+use Rattle.report_tool.specs.Better.{IsBetter}
 use Rattle.report_tool.specs.Shown.{Shows}
 
 -- the report of an image that a store holds in front
@@ -16,12 +17,15 @@ pub record IsRead (plan : Plan) (holds : Option (List ℕ)) (report : ReportHeld
   pub of_bytes : IsReport plan.zones.items plan.symbols bytes report
   pub held : IfSome holds (λ bs. (plan.mem ≤ length bs) × (bytes ≡ take plan.mem bs))
 
--- it was read, and written in a format to the sink
+-- it was read, and written in a format to the sink, with the words of a layout that explains it better, if it was
+-- looked for
 pub record IsReported (format : Format) (path : List ℕ) (plan : Plan) (holds given now : Option (List ℕ))
     (report : ReportHeld) : Type 0 where
   pub is_read : IsRead plan holds report
+  pub better : List ℕ
+  pub is_better : IsBetter plan report holds better
   pub text : List ℕ
-  pub shown : Shows format path plan report text
+  pub shown : Shows format path plan better report text
   pub appended : Appends given now text
 
 -- it was read, and the sink failed after it had taken some front of what the format shows
@@ -29,8 +33,10 @@ pub record IsCutShort (format : Format) (path : List ℕ) (plan : Plan) (holds g
     : Type 0 where
   pub report : ReportHeld
   pub is_read : IsRead plan holds report
+  pub better : List ℕ
+  pub is_better : IsBetter plan report holds better
   pub text : List ℕ
-  pub shown : Shows format path plan report text
+  pub shown : Shows format path plan better report text
   pub appended : AppendsFront given now text
 
 -- what the sink was given, where the image was not reported: nothing, but where the sink itself failed

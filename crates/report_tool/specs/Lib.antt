@@ -1,7 +1,9 @@
 pub mod Layouts
 pub mod Plans
+pub mod LayoutWords
 pub mod Trees
 pub mod Finding
+pub mod Better
 pub mod Shown
 pub mod Images
 pub mod Saved

@@ -1,5 +1,5 @@
 -- The plan by which images are read, and why there is none
-use Rattle.std.specs.Prelude.{◌≡◌, Bool, List, [], Ok, Err}
+use Rattle.std.specs.Prelude.{◌≡◌, Bool, true, false, List, [], Ok, Err}
 use Rattle.std.specs.declared.string.String.{String}
 use Rattle.std.specs.declared.alloc.Global.{Global}
 use Rattle.std.specs.Result.{IsOk}
@@ -11,18 +11,24 @@ use Rattle.report_tool.specs.declared.plan.Plan.{Plan}
 use Rattle.report_tool.specs.declared.plan.PlanFault.{PlanFault}
 use Rattle.report_tool.specs.declared.plan.PlanFault.TheVariants.{Memory, Word, Layout}
 
--- a plan of these parameters, without a map of functions, and with ten last lines
+-- a plan of these parameters, without a map of functions, and with ten last lines, which nobody gave
 pub record IsLaid (p : Params) (plan : Plan) : Type 0 where
   pub params_same : plan.params ≡ p
   pub mem_is : plan.mem ≡ p.mem
   pub zones_are : layout_of p ≡ Ok plan.zones.items
   pub symbols_none : plan.symbols ≡ []
   pub lines_ten : plan.lines ≡ 10
+  pub not_given : plan.is_given ≡ false
+
+-- a plan of its parameters, which words or a tree give
+pub record IsGiven (plan : Plan) : Type 0 where
+  pub given : plan.is_given ≡ true
+  pub laid : IsLaid plan.params (record plan { is_given = false })
 
 -- a plan of these words
 pub record IsPlan (words : List (String Global)) (is_as_given : Bool) (plan : Plan) : Type 0 where
   pub read : read_by is_as_given words ≡ Ok plan.params
-  pub laid : IsLaid plan.params plan
+  pub laid : IsGiven plan
 
 -- the words read as parameters whose layout has this fault, or has none
 pub record HasLayoutFault (words : List (String Global)) (is_as_given : Bool) (fault : LayoutFault) : Type 0 where

@@ -17,7 +17,7 @@ use Rattle.dtb_spec.specs.Ramoops.{Ramoops, nodes_of}
 use Rattle.report_tool.specs.declared.plan.Plan.{Plan}
 use Rattle.report_tool.specs.declared.tree.TreeFault.{TreeFault}
 use Rattle.report_tool.specs.declared.tree.TreeFault.TheVariants.{Memory, Tree, NoNode, Several, Word, NoCpus, Layout}
-use Rattle.report_tool.specs.Plans.{IsLaid}
+use Rattle.report_tool.specs.Plans.{IsGiven}
 
 -- the numbers of the node of this path, or of the only one
 abbrev pub numbers_found : Option Ramoops → Result Numbers TreeFault
@@ -75,7 +75,7 @@ params_in path words (Ok nodes) = params_over words (numbers_meant path nodes)
 pub record IsTreePlan (tree : List ℕ) (path : Option (List ℕ)) (words : List (String Global)) (plan : Plan)
     : Type 0 where
   pub read : params_in path words (nodes_of tree) ≡ Ok plan.params
-  pub laid : IsLaid plan.params plan
+  pub laid : IsGiven plan
 
 -- they are read as parameters that have no layout, for this fault
 pub record HasTreeLayoutFault (read : Result Params TreeFault) (fault : LayoutFault) : Type 0 where

@@ -21,7 +21,7 @@ use ramoops_layout::{LayoutError, Order, given, order_at, parity_given};
 use std::alloc::Global;
 
 /// A layout has at most so many bytes.
-const MOST: u32 = 16_777_216;
+pub(crate) const MOST: u32 = 16_777_216;
 
 fn size(words: &[String], key: &str) -> Option<u64>
     ensures { result ≡ given_by (texts words.now) key.now }

@@ -1,16 +1,30 @@
 // One image, from its store to the sink.
-ghost use Rattle.std.specs.Prelude.{◌≡◌, ◌≤◌, IfOk, IfErr, MatchResult};
+ghost use Rattle.std.specs.Prelude.{◌≡◌, ◌≤◌, length, IfOk, IfErr, MatchResult};
 ghost use Rattle.command_spec.specs.declared.Stop.TheVariants.{ImageFault, SinkFault};
 ghost use Rattle.script_spec.specs.Playing.{KeptUnless};
 ghost use Rattle.image_file.specs.Loading.{LoadStop};
+ghost use Rattle.region_report.specs.Reports.{IsReport};
 ghost use Rattle.report_tool.specs.Images.{IsRead, IsReported, IsNotReported};
 
+use crate::better::better_words;
 use crate::showing::{Format, shown};
 use crate::{Plan, Stop};
 use image_file::load;
 use outside::{Bytes, Failed, Load, Sink};
 use region_report::{Report, report_of_zones};
-use std::alloc::Global;
+use std::alloc::{AllocError, Global};
+
+/// The report of so many bytes as a plan has.
+pub(crate) fn report_of_bytes(
+    alloc: Global,
+    plan: &Plan,
+    bytes: Bytes,
+) -> Result<Report, AllocError>
+    requires { length bytes ≡ plan.now.mem }
+    ensures { IfOk result (IsReport plan.now.zones.items plan.now.symbols bytes) }
+{
+    report_of_zones(alloc, &plan.zones, &plan.symbols, bytes)
+}
 
 // Reads an image.
 fn read<M: Load>(alloc: Global, plan: &Plan, image: &mut M) -> Result<Report, Stop>
@@ -22,12 +36,13 @@ fn read<M: Load>(alloc: Global, plan: &Plan, image: &mut M) -> Result<Report, St
     ensures later { M.faults image.old ≤ M.faults image.new }
 {
     let bytes = load(alloc, image, plan.mem)?;
-    let report = report_of_zones(alloc, &plan.zones, &plan.symbols, Bytes::from_vec(bytes))?;
+    let report = report_of_bytes(alloc, plan, Bytes::from_vec(bytes))?;
     Ok(report)
 }
 
-/// Reads the image and gives its report to the sink, written in a format and headed by `path`. The image is only
-/// loaded, so it is not written. The sink is given nothing before all of the report is made.
+/// Reads the image and gives its report to the sink, written in a format and headed by `path`, with the words of a
+/// layout that explains the image better, if the plan was given and reads badly. The image is only loaded, so it is not
+/// written. The sink is given nothing before all of the report is made.
 pub fn report<M: Load, W: Sink>(
     alloc: Global,
     plan: &Plan,
@@ -45,7 +60,8 @@ pub fn report<M: Load, W: Sink>(
     ensures later { (M.faults image.old ≤ M.faults image.new) × (W.faults out.old ≤ W.faults out.new) }
 {
     let report = read(alloc, plan, image)?;
-    let bytes = shown(alloc, plan, format, path, &report)?;
+    let better = better_words(alloc, plan, &report, image)?;
+    let bytes = shown(alloc, plan, format, path, &report, &better)?;
     match out.put(&bytes) {
         Ok(()) => Ok(report),
         Err(Failed) => Err(Stop::SinkFault),

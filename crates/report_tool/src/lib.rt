@@ -4,6 +4,7 @@
 //! Nothing here writes an image: what holds it has no call to write.
 #![tactic(auto)]
 
+mod better;
 mod finding;
 mod images;
 mod plan;
@@ -11,6 +12,7 @@ mod saving;
 mod showing;
 mod tree;
 mod version;
+mod words;
 
 pub use command_spec::Stop;
 pub use finding::{find, known};
@@ -21,3 +23,4 @@ pub use saving::{Folder, save};
 pub use showing::{Format, shown_zones};
 pub use tree::TreeFault;
 pub use version::{add_order, add_tag, ftrace_tag, zone_order};
+pub use words::{layout_words, push_number};

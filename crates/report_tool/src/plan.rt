@@ -1,5 +1,5 @@
 // How images are read.
-ghost use Rattle.std.specs.Prelude.{◌≡◌, ◌<◌, ◌^◌, Ok, MatchResult};
+ghost use Rattle.std.specs.Prelude.{◌≡◌, ◌<◌, ◌^◌, true, Ok, MatchResult};
 ghost use Rattle.zone_spec.specs.Layout.{layout_of};
 ghost use Rattle.ramoops_layout.specs.Layouts.{IsCause};
 ghost use Rattle.report_tool.specs.Layouts.{read_by};
@@ -32,6 +32,8 @@ pub struct Plan {
     pub(crate) zones: Vec<Zone>,
     pub(crate) symbols: Symbols,
     pub(crate) lines: usize,
+    /// Whether words or a device tree give the parameters, and not the image itself.
+    pub(crate) is_given: bool,
     ghost laid: { layout_of params ≡ Ok zones.items },
     ghost sized: { mem ≡ params.mem },
     ghost tagged: { params.ftrace_sig < 2 ^ 32 },
@@ -63,6 +65,7 @@ impl Plan {
             zones: layout.into_zones(),
             symbols: Symbols::none(alloc),
             lines: LINES,
+            is_given: false,
         })
     }
 
@@ -83,6 +86,7 @@ impl Plan {
             zones,
             symbols: _,
             lines,
+            is_given,
         } = self;
         Plan {
             params,
@@ -90,6 +94,7 @@ impl Plan {
             zones,
             symbols,
             lines,
+            is_given,
         }
     }
 
@@ -103,6 +108,7 @@ impl Plan {
             zones,
             symbols,
             lines: _,
+            is_given,
         } = self;
         Plan {
             params,
@@ -110,6 +116,29 @@ impl Plan {
             zones,
             symbols,
             lines,
+            is_given,
+        }
+    }
+
+    // The same plan, of parameters that were given.
+    pub(crate) fn given(self) -> Plan
+        ensures { result ≡ record self { is_given = true } }
+    {
+        let Plan {
+            params,
+            mem,
+            zones,
+            symbols,
+            lines,
+            is_given: _,
+        } = self;
+        Plan {
+            params,
+            mem,
+            zones,
+            symbols,
+            lines,
+            is_given: true,
         }
     }
 
@@ -123,7 +152,7 @@ impl Plan {
             Err(fault) => return Err(PlanFault::Word(fault)),
         };
         match Plan::of_params(alloc, params) {
-            Ok(plan) => Ok(plan),
+            Ok(plan) => Ok(plan.given()),
             Err(LayoutError::Fault(fault)) => Err(PlanFault::Layout(fault)),
             Err(LayoutError::Memory) => Err(PlanFault::Memory),
         }

@@ -6,7 +6,7 @@ use crate::Plan;
 use region_report::{Division, Report};
 use report_html::html;
 use report_json::json;
-use report_text::text;
+use report_text::{brief, text};
 use std::alloc::{AllocError, Global};
 use zone_spec::Zone;
 
@@ -19,6 +19,8 @@ pub enum Format {
     Json,
     /// One page, for a browser.
     Html,
+    /// One line for people: the path, the time, and the signature or how the log ends.
+    Brief,
 }
 
 fn json_line(
@@ -27,18 +29,20 @@ fn json_line(
     zones: &[Zone],
     path: &str,
     report: &Report,
+    better: &str,
 ) -> Result<Vec<u8>, AllocError>
     requires { AreOf zones.now report.now }
-    ensures { IfOk result (λ line. IsJsonLine path.now division.now zones.now report.now line.items) }
+    ensures { IfOk result (λ line. IsJsonLine path.now division.now zones.now better.now report.now line.items) }
 {
-    let line = json(alloc, path, division, zones, report)?;
+    let line = json(alloc, path, division, zones, report, better)?;
     let mut bytes = line.into_bytes();
     bytes.push(b'\n')?;
     Ok(bytes)
 }
 
 /// The report of zones, divided so, of the image at `path`, written in a format. A text has so many lines of the newest
-/// dump.
+/// dump. `better` are the words of a layout that explains the image better; a text and JSON
+/// show them.
 pub fn shown_zones(
     alloc: Global,
     division: &Division,
@@ -47,17 +51,30 @@ pub fn shown_zones(
     format: Format,
     path: &str,
     report: &Report,
+    better: &str,
 ) -> Result<Vec<u8>, AllocError>
     requires { AreOf zones.now report.now }
-    ensures { IfOk result (λ shown. ShowsZones format path.now division.now zones.now lines report.now shown.items) }
+    ensures { IfOk result (λ shown. ShowsZones format path.now division.now zones.now lines better.now report.now
+        shown.items) }
 {
     match format {
         Format::Text => {
-            let bytes = text(alloc, path.as_bytes(), zones, report, lines)?;
+            let bytes = text(
+                alloc,
+                path.as_bytes(),
+                zones,
+                report,
+                lines,
+                better.as_bytes(),
+            )?;
             Ok(bytes.into_vec())
         }
-        Format::Json => json_line(alloc, division, zones, path, report),
+        Format::Json => json_line(alloc, division, zones, path, report, better),
         Format::Html => html(alloc, path.as_bytes(), division, zones, report),
+        Format::Brief => {
+            let bytes = brief(alloc, path.as_bytes(), report)?;
+            Ok(bytes.into_vec())
+        }
     }
 }
 
@@ -68,9 +85,10 @@ pub fn shown(
     format: Format,
     path: &str,
     report: &Report,
+    better: &str,
 ) -> Result<Vec<u8>, AllocError>
     requires { IsOf plan.now report.now }
-    ensures { IfOk result (λ shown. Shows format path.now plan.now report.now shown.items) }
+    ensures { IfOk result (λ shown. Shows format path.now plan.now better.now report.now shown.items) }
 {
     let division = Division::Region(plan.params);
     shown_zones(
@@ -81,5 +99,6 @@ pub fn shown(
         format,
         path,
         report,
+        better,
     )
 }

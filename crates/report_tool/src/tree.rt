@@ -152,7 +152,7 @@ impl Plan {
     {
         let params = params_in(alloc, tree, path, words)?;
         match Plan::of_params(alloc, params) {
-            Ok(plan) => Ok(plan),
+            Ok(plan) => Ok(plan.given()),
             Err(LayoutError::Fault(fault)) => Err(TreeFault::Layout(fault)),
             Err(LayoutError::Memory) => Err(TreeFault::Memory),
         }

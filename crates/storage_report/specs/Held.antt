@@ -1,7 +1,16 @@
--- The storage that an image shows
-use Rattle.std.specs.Prelude.{◌≡◌, List, ℕ, Option, Some, None, IfSome}
+-- The storage that an image is
+use Rattle.std.specs.Prelude.{◌≡◌, ⊤, ℕ, List, Option, Some, None, Ok, Err, IfSome}
+use Rattle.command_spec.specs.declared.Stop.{Stop}
+use Rattle.command_spec.specs.declared.Stop.TheVariants.{Memory}
+use Rattle.image_file.specs.Loading.{FrontStop}
+use Rattle.psz_spec.specs.declared.Sizes.{Sizes}
+use Rattle.storage_words.specs.declared.Storages.{Storages}
+use Rattle.storage_words.specs.declared.Storages.TheVariants.{Never, Shown, All}
 use Rattle.storage_spec.specs.Found.{front_of, storage_in}
+use Rattle.storage_words.specs.Division.{storage_of}
 use Rattle.storage_report.specs.declared.storage.HeldStorage.{HeldStorage}
+use Rattle.storage_report.specs.declared.storage.NoStorage.{NoStorage}
+use Rattle.storage_report.specs.declared.storage.NoStorage.TheVariants.{Stopped, Undivided}
 
 -- the storage that these bytes show, with them
 pub record IsShownBy (bytes : List ℕ) (h : HeldStorage) : Type 0 where
@@ -15,3 +24,39 @@ IsShownIn bytes (Some h) = IsShownBy bytes h
 -- the storage that the front of an image shows, or that it shows none
 abbrev pub IsHeld : Option (List ℕ) → Option HeldStorage → Type 0
 IsHeld holds held = IfSome holds (λ image. IsShownIn (front_of image) held)
+
+-- ---- by sizes that are given
+
+-- the storage that they divide, with its bytes
+pub record IsDividedBy (sizes : Sizes) (bytes : List ℕ) (h : HeldStorage) : Type 0 where
+  pub divided : storage_of sizes bytes ≡ Ok h.storage
+  pub bytes_same : h.bytes.items ≡ bytes
+
+-- memory ran out, or no kernel divides the bytes by them
+abbrev pub IsUndividedBy : Sizes → List ℕ → NoStorage → Type 0
+IsUndividedBy sizes bytes (Stopped stop) = stop ≡ Memory
+IsUndividedBy sizes bytes (Undivided fault) = storage_of sizes bytes ≡ Err fault
+
+abbrev pub IsDivided : Sizes → Option (List ℕ) → HeldStorage → Type 0
+IsDivided sizes holds h = IfSome holds (λ image. IsDividedBy sizes (front_of image) h)
+
+abbrev pub IsUndivided : Sizes → Option (List ℕ) → ℕ → ℕ → NoStorage → Type 0
+IsUndivided sizes holds before now (Stopped stop) = FrontStop stop before now
+IsUndivided sizes holds before now (Undivided fault) =
+    IfSome holds (λ image. storage_of sizes (front_of image) ≡ Err fault)
+
+-- ---- as files are looked at
+
+abbrev pub IsLookedAt : Storages → Option (List ℕ) → Option HeldStorage → Type 0
+IsLookedAt Never holds None = ⊤
+IsLookedAt Never holds (Some h) = ⊥
+IsLookedAt Shown holds held = IsHeld holds held
+IsLookedAt (All sizes) holds None = ⊥
+IsLookedAt (All sizes) holds (Some h) = IsDivided sizes holds h
+
+-- why it is not known, by the count of faults before and now
+abbrev pub IsNotLookedAt : Storages → Option (List ℕ) → ℕ → ℕ → NoStorage → Type 0
+IsNotLookedAt Never holds before now why = ⊥
+IsNotLookedAt Shown holds before now (Stopped stop) = FrontStop stop before now
+IsNotLookedAt Shown holds before now (Undivided fault) = ⊥
+IsNotLookedAt (All sizes) holds before now why = IsUndivided sizes holds before now why

@@ -10,4 +10,4 @@ mod storage;
 pub use loading::held_storage;
 pub use reading::{StorageRead, read};
 pub use showing::report;
-pub use storage::HeldStorage;
+pub use storage::{HeldStorage, NoStorage};

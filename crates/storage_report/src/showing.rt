@@ -1,5 +1,5 @@
 // The report of a storage, given to a sink.
-ghost use Rattle.std.specs.Prelude.{◌≡◌, IfOk, MatchResult};
+ghost use Rattle.std.specs.Prelude.{◌≡◌, IfOk, OnOk, MatchResult};
 ghost use Rattle.storage_spec.specs.Zones.{zones_in};
 ghost use Rattle.report_tool.specs.Shown.{AreOf};
 ghost use Rattle.storage_report.specs.Given.{ShowsStorage, IsReported, IsUnreported};
@@ -35,6 +35,7 @@ fn shown(
         format,
         path,
         &read.report,
+        "",
     )
 }
 
@@ -49,10 +50,11 @@ pub fn report<W: Sink>(
     path: &str,
     out: &mut W,
 ) -> Result<Report, Stop>
-    ensures { MatchResult result
+    ensures reported { MatchResult result
         (IsReported format path.now held.now symbols.now lines (W.given out.old) (W.given out.new))
         (IsUnreported format path.now held.now symbols.now lines (W.given out.old) (W.given out.new)
         (W.faults out.old) (W.faults out.new)) }
+    ensures faultless { OnOk result (W.faults out.new ≡ W.faults out.old) }
 {
     let read = read(alloc, &held.storage, symbols, &held.bytes)?;
     let bytes = shown(alloc, held, &read, lines, format, path)?;

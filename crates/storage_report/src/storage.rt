@@ -3,9 +3,41 @@ ghost use Rattle.std.specs.Prelude.{◌≡◌, None, string_bytes, IfOk};
 ghost use Rattle.psz_spec.specs.Layouts.{size_fault};
 ghost use Rattle.storage_spec.specs.Told.{storage_lines as lines_by};
 
+use command_spec::Stop;
+use psz_spec::SizeFault;
 use std::alloc::{AllocError, Global};
 use storage_spec::Storage;
 use storage_zones::storage_lines;
+
+/// Why it is not known whether an image is a storage, or why it is none of the sizes that are given.
+#[derive(Clone, Copy, Debug, PartialEq, Eq)]
+pub enum NoStorage {
+    /// It was not read.
+    Stopped(Stop),
+    /// No kernel divides it by these sizes.
+    Undivided(SizeFault),
+}
+
+impl From<Stop> for NoStorage {
+    ghost use Rattle.storage_report.specs.declared.storage.NoStorage.TheVariants.{Stopped};
+
+    ghost from_gives = { λ stop e. e ≡ Stopped stop };
+
+    fn from(stop: Stop) -> NoStorage {
+        NoStorage::Stopped(stop)
+    }
+}
+
+impl From<AllocError> for NoStorage {
+    ghost use Rattle.command_spec.specs.declared.Stop.TheVariants.{Memory};
+    ghost use Rattle.storage_report.specs.declared.storage.NoStorage.TheVariants.{Stopped};
+
+    ghost from_gives = { λ _ e. e ≡ Stopped Memory };
+
+    fn from(_: AllocError) -> NoStorage {
+        NoStorage::Stopped(Stop::Memory)
+    }
+}
 
 /// A storage, and its bytes.
 #[derive(Drop)]

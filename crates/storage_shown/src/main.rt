@@ -12,6 +12,7 @@ use report_tool::{Folder, Format, save};
 use std::alloc::{AllocError, Global};
 use std::{fs, io};
 use storage_report::{HeldStorage, held_storage, report};
+use storage_words::Storages;
 use symbols::Symbols;
 
 /// The most bytes of a report's text.
@@ -94,7 +95,7 @@ fn show_held<R: Print + AllocGlobal>(rt: &R, name: &str, held: &HeldStorage) -> 
 }
 
 fn show<R: Print + AllocGlobal, M: Load>(rt: &R, name: &str, image: &mut M) -> io::Result<()> {
-    match held_storage(rt.alloc(), image) {
+    match held_storage(rt.alloc(), Storages::Shown, image) {
         Ok(Some(held)) => show_held(rt, name, &held),
         Ok(None) => println!(rt; "{name}: no storage"),
         Err(_) => println!(rt; "{name}: not read"),

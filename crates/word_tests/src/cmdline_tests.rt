@@ -7,7 +7,7 @@ use std::test::Fail;
 
 fn shown(alloc: Global, line: &[u8]) -> Result<String, LineFault> {
     let mut words = Vec::new(alloc);
-    add_layout_words(alloc, &mut words, line)?;
+    KernelLine::read(alloc, line)?.add_layout_words(alloc, Module::Ramoops, &mut words)?;
     Ok(format!(in alloc; "{words:?}")?)
 }
 
@@ -17,7 +17,11 @@ fn words_of_the_layout(rt: HostRuntime) -> Result<(), Fail> {
     let line =
         b"BOOT_IMAGE=/vmlinuz ro ramoops.mem_address=0x8f000000 ramoops.mem_size=0x100000  ramoops.ecc=1 \
 ramoops.dump_oops=1 ramoops.mem_type ramoops.max_reason=2 quiet xramoops.ecc=2 ramoops.console_size=0x4000";
-    assert_eq!(rt; add_layout_words(rt.alloc(), &mut words, line), Ok(()));
+    let read = KernelLine::read(rt.alloc(), line).unwrap();
+    assert_eq!(rt;
+        read.add_layout_words(rt.alloc(), Module::Ramoops, &mut words),
+        Ok(())
+    );
     add_tag(rt.alloc(), &mut words, 393408)?;
     let shown = format!(in rt.alloc(); "{words:?}")?;
     assert_eq!(rt;

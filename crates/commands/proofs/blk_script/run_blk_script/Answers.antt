@@ -1,10 +1,9 @@
 -- How each stage of a script on the block store ends it
 use Rattle.std.proofs.Common.{refl, arith, Err}
-use Rattle.command_line.proofs.ReadParts.{read_whole}
 use Rattle.image_file.proofs.Sizes.{size_load}
-use Rattle.command_line.proofs.Script.{load_caused, script_caused, parse_caused}
-use Rattle.command_line.proofs.BlkScript.{size_stopped, script_stopped, parse_stopped, play_ended, played_caused}
-use Rattle.command_line.proofs.BlkScript.{played_asks, unless_line}
+use Rattle.command_line.proofs.Script.{load_caused, script_caused}
+use Rattle.command_line.proofs.BlkScript.{size_stopped, script_stopped, play_ended, played_caused, played_asks}
+use Rattle.command_line.proofs.BlkScript.{unless_line}
 use Rattle.command_spec.specs.Ends.{end_of}
 use Rattle.script_spec.specs.declared.LineStop.TheVariants.{StoreFault, SinkFault}
 use Rattle.commands.proofs.WorkEnds.{count_same, count_since, none_asked}
@@ -20,17 +19,15 @@ returns-clause-work g c = rw c.end_of.ensures (record {
   };
   caused = played_caused c.play.result _ _ _ _ _ _ _ _ c.check_size.ensures.later (omega arith) c.play.ensures.caused;
   counts = record {
-    source = count_same _ (end_of c.play.result) _ _ c.in-Ok-read_script.ensures.counts;
+    source = count_same _ (end_of c.play.result) _ _ c.in-Ok-read_lines.ensures.counts;
     store = count_since _ (end_of c.play.result) _ _ _ c.in-Ok.ensures.counts
         (unless_line StoreFault c.play.result _ _ c.play.ensures.kept_store);
     sink = unless_line SinkFault c.play.result _ _ c.play.ensures.kept_sink;
   };
   kept = λ w. absurd w;
   asks = played_asks c.play.result _ _ _ _ _ _ c.play.ensures.caused;
-  ended = play_ended c.args.layout _ _ c.in-Ok-read_script.text.items c.in-Ok-lines.lines c.play.result
-      (g.M.Load.holds c.check_size.new.image) _ _ _ _ c.in-Ok.ensures.ok
-      (read_whole _ _ c.in-Ok-read_script.text c.in-Ok-read_script.ensures.ok c.in-Ok-read_script.ensures.end)
-      (rw c.deref.ensures.value at c.in-Ok-lines.ensures.read) c.check_size.ensures.same c.play.ensures.caused
+  ended = play_ended c.args.layout _ _ c.in-Ok-read_lines.lines c.play.result (g.M.Load.holds c.check_size.new.image)
+      _ _ _ _ c.in-Ok.ensures.ok c.in-Ok-read_lines.ensures.read c.check_size.ensures.same c.play.ensures.caused
       (rw c.as_slice.ensures at c.play.ensures.played);
 })
 
@@ -50,37 +47,20 @@ returns-in-Err-clause-work g c = record {
       (record { given = refl; holds = c.in-Err.ensures.same }) c.in-Err.ensures.err;
 }
 
-pub returns-in-Err-read_script-clause-work : goal.returns-in-Err-read_script-clause-work
-returns-in-Err-read_script-clause-work g c = record {
+pub returns-in-Err-read_lines-clause-work : goal.returns-in-Err-read_lines-clause-work
+returns-in-Err-read_lines-clause-work g c = record {
   later = record { source = omega arith; store = omega arith; sink = omega arith };
-  caused = script_caused c.in-Err-read_script.stop (g.S.Source.left c.args.script.now) _ _ _ _ _ _
-      c.in-Err-read_script.ensures.err;
+  caused = script_caused c.in-Err-read_lines.stop (g.S.Source.left c.args.script.now) _ _ _ _ _ _ _
+      c.in-Err-read_lines.ensures.read;
   counts = record {
-    source = c.in-Err-read_script.ensures.counts;
+    source = c.in-Err-read_lines.ensures.counts;
     store = λ other. c.in-Ok.ensures.counts;
     sink = λ other. refl;
   };
   kept = λ w. absurd w;
-  asks = none_asked (Err c.in-Err-read_script.stop) _ _ c.in-Ok.ensures.unwritten;
-  ended = script_stopped c.args.layout _ _ c.in-Ok.ensures.ok c.in-Err-read_script.stop _ _
-      (record { given = refl; holds = c.in-Ok.ensures.same }) c.in-Err-read_script.ensures.err;
-}
-
-pub returns-in-Err-lines-clause-work : goal.returns-in-Err-lines-clause-work
-returns-in-Err-lines-clause-work g c = record {
-  later = record { source = omega arith; store = omega arith; sink = omega arith };
-  caused = parse_caused c.in-Err-lines.stop _ _ _ _ _ _ _ c.in-Err-lines.ensures.read;
-  counts = record {
-    source = λ other. c.in-Ok-read_script.ensures.counts;
-    store = λ other. c.in-Ok.ensures.counts;
-    sink = λ other. refl;
-  };
-  kept = λ w. absurd w;
-  asks = none_asked (Err c.in-Err-lines.stop) _ _ c.in-Ok.ensures.unwritten;
-  ended = parse_stopped c.args.layout _ _ c.in-Ok.ensures.ok c.in-Ok-read_script.text.items
-      (read_whole _ _ c.in-Ok-read_script.text c.in-Ok-read_script.ensures.ok c.in-Ok-read_script.ensures.end)
-      c.in-Err-lines.stop (record { given = refl; holds = c.in-Ok.ensures.same })
-      (rw c.deref.ensures.value at c.in-Err-lines.ensures.read);
+  asks = none_asked (Err c.in-Err-read_lines.stop) _ _ c.in-Ok.ensures.unwritten;
+  ended = script_stopped c.args.layout _ _ c.in-Ok.ensures.ok c.in-Err-read_lines.stop _ _
+      (record { given = refl; holds = c.in-Ok.ensures.same }) c.in-Err-read_lines.ensures.read;
 }
 
 pub returns-clause-put : goal.returns-clause-put
@@ -89,8 +69,5 @@ returns-clause-put g c = ended_put c.end_of.result _ _ c.play.ensures.put
 pub returns-in-Err-clause-put : goal.returns-in-Err-clause-put
 returns-in-Err-clause-put g c = no_text _
 
-pub returns-in-Err-read_script-clause-put : goal.returns-in-Err-read_script-clause-put
-returns-in-Err-read_script-clause-put g c = no_text _
-
-pub returns-in-Err-lines-clause-put : goal.returns-in-Err-lines-clause-put
-returns-in-Err-lines-clause-put g c = no_text _
+pub returns-in-Err-read_lines-clause-put : goal.returns-in-Err-read_lines-clause-put
+returns-in-Err-read_lines-clause-put g c = no_text _

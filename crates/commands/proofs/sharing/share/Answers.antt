@@ -18,20 +18,20 @@ play-played-requires-clause-opened c =
     opened_by _ _ can _ (c.in-Ok-open.ensures.ok can)
 
 pub returns-in-Err-default : goal.returns-in-Err-default
-returns-in-Err-default c =
+returns-in-Err-default c = λ given h.
     let can = opens_in _ _ _ c.requires.plain.zones (c.in-Ok.ensures.can c.requires.plain.plain) in
     rw c.stop_of.ensures (share_stopped (zones_of c.args.booted) c.args.image.items c.in-Ok.image c.args.lines c.in-Ok.ensures.is can.zone
     (zone_in_both (zones_of c.args.booted) (zones_of c.args.layout) c.in-Ok.image c.requires.plain.zones can)
-    c.in-Err-default.stop c.play-played.new.shared
+    c.in-Err-default.stop c.play-played.new.shared given h
     (subst (Plays can.zone c.in-Ok.image c.args.lines c.play-played.new.shared) c.in-Err-default.is-0
     (c.play-played.ensures can.zone c.in-Ok.image (c.in-Ok-open.ensures.ok can))))
 
 pub returns-in-Ok-Ok : goal.returns-in-Ok-Ok
-returns-in-Ok-Ok c =
+returns-in-Ok-Ok c = λ given h.
     let can = opens_in _ _ _ c.requires.plain.zones (c.in-Ok.ensures.can c.requires.plain.plain) in
     share_done (zones_of c.args.booted) c.args.image.items c.in-Ok.image c.args.lines c.in-Ok.ensures.is can.zone
     (zone_in_both (zones_of c.args.booted) (zones_of c.args.layout) c.in-Ok.image c.requires.plain.zones can)
-    c.play-played.new.shared c.in-Ok-Ok.text.items c.close-image.result
+    c.play-played.new.shared c.in-Ok-Ok.text.items c.close-image.result given
     (subst (Plays can.zone c.in-Ok.image c.args.lines c.play-played.new.shared) c.in-Ok-Ok.is-0
     (c.play-played.ensures can.zone c.in-Ok.image (c.in-Ok-open.ensures.ok can)))
     (λ h left. rw c.in-Ok-Ok.is-1 at (c.shared_text-text.ensures h left))

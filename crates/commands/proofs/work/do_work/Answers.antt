@@ -1,8 +1,8 @@
--- `do_work` has done what the words ask for: nothing for a refused plan, and a move's work for
--- `move`. The other plans need no answer.
+-- `do_work` has done what the words ask for: nothing for a refused plan, a move's work for `move`, and a script's for
+-- `shared-run`. The other plans need no answer.
 use Rattle.std.proofs.Common.{refl, arith, Err}
-use Rattle.command_spec.specs.Commands.{OfMove, plan_of}
-use Rattle.command_line.specs.Words.{texts, move_for}
+use Rattle.command_spec.specs.Commands.{OfRam, OfMove, SharedRun, plan_of}
+use Rattle.command_line.specs.Words.{texts, plan_for, move_for}
 use Rattle.commands.proofs.WorkEnds.{none_done, plan_done, count_same}
 use Rattle.commands.proofs.Due.{plan_put, plan_same}
 use Rattle.commands.proofs.ImageFaults.{plan_fails, none_fails}
@@ -54,3 +54,18 @@ returns-in-Ok-Move-clause-asked g c = plan_fails (plan_of (texts c.args.words.no
 pub returns-in-Err-clause-asked : goal.returns-in-Err-clause-asked
 returns-in-Err-clause-asked g c = none_fails (plan_of (texts c.args.words.now)) _ _ (Err c.in-Err.stop)
     (record { script = record { left = refl; source = refl }; given = refl; writes = refl })
+
+pub returns-in-Ok-Share-clause-work : goal.returns-in-Ok-Share-clause-work
+returns-in-Ok-Share-clause-work g c = plan_done (plan_of (texts c.args.words.now))
+    (OfRam (plan_for SharedRun c.in-Ok-Share.booted)) _ _ _
+    (rw c.in-Ok-Share.field-0-is at c.in-Ok-Share.ensures.plan) c.run_script.ensures.work
+
+pub returns-in-Ok-Share-clause-put : goal.returns-in-Ok-Share-clause-put
+returns-in-Ok-Share-clause-put g c = plan_put (plan_of (texts c.args.words.now))
+    (OfRam (plan_for SharedRun c.in-Ok-Share.booted)) _ _ _
+    (rw c.in-Ok-Share.field-0-is at c.in-Ok-Share.ensures.plan) c.run_script.ensures.put
+
+pub returns-in-Ok-Share-clause-asked : goal.returns-in-Ok-Share-clause-asked
+returns-in-Ok-Share-clause-asked g c = plan_fails (plan_of (texts c.args.words.now))
+    (OfRam (plan_for SharedRun c.in-Ok-Share.booted)) _ _ _
+    (rw c.in-Ok-Share.field-0-is at c.in-Ok-Share.ensures.plan) c.run_script.ensures.asked

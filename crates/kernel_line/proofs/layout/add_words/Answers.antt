@@ -6,10 +6,10 @@ use Rattle.kernel_line.proofs.layout.add_words.Goals as goal
 
 pub returns-in_err-add_word-clause-err : goal.returns-in_err-add_word-clause-err
 returns-in_err-add_word-clause-err c =
-    let fault : IsWordFault c.word-item.result c.in_err-add_word.field-0.0 =
-    subst (λ (w : List ℕ). IsWordFault w c.in_err-add_word.field-0.0) c.as_slice.ensures
+    let fault : IsWordFault c.args.which c.word-item.result c.in_err-add_word.field-0.0 =
+    subst (λ (w : List ℕ). IsWordFault c.args.which w c.in_err-add_word.field-0.0) c.as_slice.ensures
     c.in_err-add_word.ensures.err in
-    let among : IsFaultAmong c.args.read.now c.in_err-add_word.field-0.0 =
-    one_refused c.args.read.now c.loop-word.word-index c.word-item.result c.in_err-add_word.field-0.0
+    let among : IsFaultAmong c.args.which c.args.read.now c.in_err-add_word.field-0.0 =
+    one_refused c.args.which c.args.read.now c.loop-word.word-index c.word-item.result c.in_err-add_word.field-0.0
     c.loop-word-test.true c.word-item.is fault in
     search rules

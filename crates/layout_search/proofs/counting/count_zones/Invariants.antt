@@ -2,6 +2,7 @@
 -- loop of `count_zones`.
 use Rattle.std.proofs.Common.{take}
 use Rattle.layout_search.specs.Counted.{AreCounts, AreAtMost}
+use Rattle.layout_search.specs.Sights.{AreSeen}
 use Rattle.layout_search.proofs.counting.count_zones.Given as goal
 
 -- the counts over the zones so far
@@ -9,4 +10,5 @@ abbrev pub invariant-loop-zone : goal.invariant-loop-zone
 invariant-loop-zone l = record {
   counted : AreCounts l.image (take l.zone-index l.zones) l.counts;
   at_most : AreAtMost l.zone-index l.counts;
+  seen : AreSeen l.image l.sights;
 }

@@ -7,8 +7,8 @@ use Rattle.layout_search.specs.Looks.{IsInside}
 use Rattle.layout_search.proofs.ZonesInImage.{inside}
 use Rattle.layout_search.proofs.peeking.first_fits.Goals as goal
 
-pub is_first_or_unlike-requires : goal.is_first_or_unlike-requires
-is_first_or_unlike-requires c =
+pub is_first_or_unlike-requires-clause-inside : goal.is_first_or_unlike-requires-clause-inside
+is_first_or_unlike-requires-clause-inside c =
     let laid = rw c.in-Some.is at c.in_ok-zones.ensures in
     subst (λ (zones : List Zone). (i : ℕ) (z : Zone) → slice_get zones i ≡ Some z → IsInside c.args.image.now z)
     (sym c.deref.ensures.value)

@@ -3,5 +3,5 @@ use Rattle.std.proofs.Common.{arith}
 use Rattle.std.proofs.lemmas.Option.{slice_get-get_or}
 use Rattle.layout_search.proofs.peeking.is_first_or_unlike.Goals as goal
 
-pub look_at-requires : goal.look_at-requires
-look_at-requires c = c.requires 0 _ (slice_get-get_or c.args.zones.now 0 _ (omega arith))
+pub see-requires-clause-inside : goal.see-requires-clause-inside
+see-requires-clause-inside c = c.requires.inside 0 _ (slice_get-get_or c.args.zones.now 0 _ (omega arith))

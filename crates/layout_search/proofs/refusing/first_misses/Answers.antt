@@ -21,8 +21,8 @@ count_up : (limit m n a b c d a' b' c' d' faults : ℕ) → m ≡ n → a ≡ a'
     → limit ≤ m - (a + (b + c + d)) → 1 + (n - (a' + b' + c' + d')) ≤ faults → limit < faults
 count_up limit m n a b c d a' b' c' d' faults e p q r s h k = omega (arith, e, p, q, r, s, h, k)
 
-pub returns : goal.returns
-returns c = λ e t.
+pub returns-clause-faults : goal.returns-clause-faults
+returns-clause-faults c = λ e t.
     let image = c.args.image.now in
     let k : Candidate = c.args.c.now in
     let tagged : Candidate = record k { tag = t } in
@@ -32,7 +32,7 @@ returns c = λ e t.
     let pmsg = ap (λ (row : Row). row.count) c.pmsg_row.ensures.value in
     let first : fits image (zone_at (params_of k) Dump (dump_row_of k).size 0 (0 + 0 * (dump_row_of k).size)) ≡ false =
     subst (λ (row : Row). fits image (zone_at (params_of k) Dump row.size 0 (0 + 0 * row.size)) ≡ false)
-    c.dump_row-dumps.ensures.value (c.in_ok-fits.ensures (not_true c.in_ok-fits.fits e)) in
+    c.dump_row-dumps.ensures.value (c.in_ok-fits.ensures.fits (not_true c.in_ok-fits.fits e)) in
     let some : 0 < (dump_row_of k).count = omega (arith, dumps, c.if-dumps-eq0.false) in
     let all : 1 + (marks image - ((dump_row_of k).count + (console_row_of k).count + (ftrace_row_of k).count
     + (pmsg_row_of k).count)) ≤ faults image (zones_of tagged) =

@@ -16,4 +16,4 @@ returns-in_ok-misses-in-Parity-clause-refused c = λ e s.
     subst (λ (level : Level). SettledOver c.args.known.now c.args.image.now c.args.aim.now (after level) c.args.c.now s)
     (sym c.in-Parity.is)
     (bad_first c.args.known.now c.args.image.now c.args.aim.now c.args.c.now s
-    (c.in_ok-misses-in-Parity.ensures (not_false _ e)))
+    (c.in_ok-misses-in-Parity.ensures.faults (not_false _ e)))

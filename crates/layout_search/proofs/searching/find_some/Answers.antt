@@ -4,8 +4,8 @@ use Rattle.layout_spec.specs.Marks.{marks}
 use Rattle.layout_search.proofs.SearchAnswers.{all_first, nothing, some_by}
 use Rattle.layout_search.proofs.searching.find_some.Goals as goal
 
-pub returns : goal.returns
-returns c =
+pub returns-clause-some : goal.returns-clause-some
+returns-clause-some c =
     let known = c.args.known.now in
     let image = c.args.image.now in
     let state = c.try_limit.new.state in

@@ -1,5 +1,5 @@
 -- A sweep for some layout beside the best finds one, or there is none. For `has_other`.
-use Rattle.std.proofs.Common.{◌∙◌, ◌<◌, ◌^◌, sym, ap, refl, arith}
+use Rattle.std.proofs.Common.{◌∙◌, ◌<◌, ◌^◌, sym, refl, arith}
 use Rattle.layout_spec.specs.Marks.{marks}
 use Rattle.layout_search.proofs.SearchAnswers.{some_other, no_other}
 use Rattle.layout_search.proofs.searching.has_other.Goals as goal

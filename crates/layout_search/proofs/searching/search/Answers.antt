@@ -1,6 +1,6 @@
 -- The layout that was found first and the rival that the second sweep leaves are an answer. So is the best of a search
 -- that gave up, after the usual layouts were tried. For `search`.
-use Rattle.std.proofs.Common.{◌≡◌, ◌<◌, true, false, Option, refl, sym, subst, arith, true≢false}
+use Rattle.std.proofs.Common.{◌≡◌, ◌<◌, true, Option, refl, sym, subst, arith, true≢false}
 use Rattle.std.specs.Prelude.{Bool, not}
 use Rattle.layout_spec.specs.declared.Candidate.{Candidate}
 use Rattle.layout_spec.specs.Taken.{is_taken}

@@ -2,7 +2,7 @@
 -- more faults than the limit. For `may_fit`.
 use Rattle.std.proofs.Common.{[], ◌∷◌, refl, arith}
 use Rattle.layout_search.specs.Seen.{row_end}
-use Rattle.layout_search.proofs.Bounds.{faults_by_rows, far_four, marked_four, few_four}
+use Rattle.layout_search.proofs.Bounds.{faults_by_rows, far_four, marked_four, few_four, marked_within}
 use Rattle.layout_search.proofs.seeing.may_fit.Goals as goal
 
 pub returns-then-marks-limit : goal.returns-then-marks-limit
@@ -30,6 +30,21 @@ returns-in_default-see c = λ h p. omega (
   faults_by_rows c.args.image.now p (c.args.dumps ∷ c.args.console ∷ c.args.next ∷ c.args.last ∷ []),
   c.in-Some.ensures.far,
   c.in_default-see.ensures,
+  far_four c.args.image.now c.args.dumps c.args.console c.args.next c.args.last c.end_of-second.result c.end_of-third.result c.end_of.result c.end_of-second.ensures.value c.end_of-third.ensures.value c.end_of.ensures.value,
+  marked_four c.args.image.now c.args.dumps c.args.console c.args.next c.args.last c.end_of-second.result c.end_of-third.result c.end_of.result c.end_of-second.ensures.value c.end_of-third.ensures.value c.end_of.ensures.value,
+)
+
+pub returns-then-marks-two : goal.returns-then-marks-two
+returns-then-marks-two c = λ h p. omega (
+  arith,
+  c.requires.marks,
+  faults_by_rows c.args.image.now p (c.args.dumps ∷ c.args.console ∷ c.args.next ∷ c.args.last ∷ []),
+  c.in-Some.ensures.far,
+  c.in-Some.ensures.marked,
+  c.in-Some-see.ensures.far,
+  c.in-Some-see.ensures.marked,
+  marked_within c.args.image.now c.args.dumps 0,
+  marked_within c.args.image.now c.args.console c.end_of-second.result,
   far_four c.args.image.now c.args.dumps c.args.console c.args.next c.args.last c.end_of-second.result c.end_of-third.result c.end_of.result c.end_of-second.ensures.value c.end_of-third.ensures.value c.end_of.ensures.value,
   marked_four c.args.image.now c.args.dumps c.args.console c.args.next c.args.last c.end_of-second.result c.end_of-third.result c.end_of.result c.end_of-second.ensures.value c.end_of-third.ensures.value c.end_of.ensures.value,
 )

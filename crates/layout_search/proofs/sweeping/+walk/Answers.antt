@@ -1,6 +1,7 @@
 -- Each value of the word's list is of the family. One more settles its candidates and leaves the others settled. For
 -- `walk`.
 use Rattle.std.proofs.Common.{Option, get_or, length, sym, subst, arith}
+use Rattle.layout_spec.specs.declared.Candidate.{Candidate}
 use Rattle.layout_search.specs.Levels.{IsListed, after, having, levels_from}
 use Rattle.layout_search.specs.Placed.{IsPassed}
 use Rattle.layout_search.specs.Tried.{IsSound, SettledOver, SettledBefore, TagsSettled}
@@ -9,6 +10,7 @@ use Rattle.layout_search.specs.declared.levels.Level.{Level}
 use Rattle.layout_search.proofs.BestSoFar.{advances_trans, chosen_of, fewer_left, one_more, over_done, over_later}
 use Rattle.layout_search.proofs.BestSoFar.{over_last, over_none, step_listed, step_settled, step_before, stop_here}
 use Rattle.layout_search.proofs.BestSoFar.{before_nowhere}
+use Rattle.layout_search.proofs.Nearer.{near_aim, settled_wider, before_wider}
 use Rattle.layout_search.proofs.sweeping.+walk.Goals as goal
 
 pub try_tags-requires-clause-chosen : goal.try_tags-requires-clause-chosen
@@ -29,9 +31,12 @@ walk-requires t c =
     (c.values-list.ensures known len c.requires.lists) c.loop-k-test.true c.requires.listed in
     let passed = subst (λ (o : Option Level). IsPassed o known len c.having-candidate.result) (sym c.next.ensures)
     (c.in_ok-may.ensures.passed c.if-not-may.false) in
-    let sound = subst (IsSound known c.args.image.now c.args.aim.now.besides) (sym c.spend.ensures.best)
-    c.loop-k.invariant.sound in
-    (omega (arith, c.decreases, fewer), (c.requires.aim, (c.requires.lists, (listed, (passed, sound)))))
+    let sound = subst (λ (b : Option Candidate). IsSound known c.args.image.now b c.spend.new.state.best)
+    (sym c.narrowed-near.ensures.besides_is)
+    (subst (IsSound known c.args.image.now c.args.aim.now.besides) (sym c.spend.ensures.best) c.loop-k.invariant.sound) in
+    let near = near_aim c.args.image.now c.args.aim.now c.narrowed-near.result c.loop-k.state.best c.narrowed-near.ensures
+    c.requires.aim in
+    (omega (arith, c.decreases, fewer), (near, (c.requires.lists, (listed, (passed, (sound, c.in_ok-may.ensures.seen))))))
 
 pub returns-in_default-clause-settled : goal.returns-in_default-clause-settled
 returns-in_default-clause-settled t c =
@@ -66,12 +71,15 @@ loop-k-preserved-then-not-may t c =
     let aim = c.args.aim.now in
     let s = c.spend.new.state in
     let old = c.loop-k.invariant in
-    let last = rw c.having-candidate.ensures at (c.in_ok-may.ensures.refused c.if-not-may.true s) in record {
+    let here = rw c.having-candidate.ensures at (c.in_ok-may.ensures.refused c.if-not-may.true s) in
+    let last = settled_wider known image aim c.narrowed-near.result (after c.in-Some.level) _ c.loop-k.state s
+    c.narrowed-near.ensures old.sound c.spend.ensures.advances here in record {
       advances = advances_trans old.advances c.spend.ensures.advances;
       settled = one_more known image aim c.in-Some.level c.args.c.now c.values-list.result.now c.loop-k.k
           c.loop-k.state s
           c.spend.ensures.advances old.settled last;
       sound = subst (IsSound known image aim.besides) (sym c.spend.ensures.best) old.sound;
+      seen = c.in_ok-may.ensures.seen;
     }
 
 pub returns-in-Some-stop-clause-settled : goal.returns-in-Some-stop-clause-settled
@@ -88,9 +96,11 @@ returns-in-Some-stop-clause-settled t c =
     c.in-Some.is
     c.counted-in-Some-stop.ensures (c.values-list.ensures known (length image) c.requires.lists)
     (λ j lt. over_later known image aim (after level) _ c.loop-k.state s adv (c.loop-k.invariant.settled j lt))
-    (step_before known image aim c.next.result level c.args.c.now c.having-candidate.result
+    (before_wider known image aim c.narrowed-near.result (after level) _ c.loop-k.state s inner c.narrowed-near.ensures
+    c.loop-k.invariant.sound adv
+    (step_before known image c.narrowed-near.result c.next.result level c.args.c.now c.having-candidate.result
     (get_or list c.loop-k.k 0) s inner c.next.ensures c.having-candidate.ensures
-    (rw c.in-Some-stop.is at c.in_ok-stop.ensures.settled))
+    (rw c.in-Some-stop.is at c.in_ok-stop.ensures.settled)))
 
 pub returns-clause-settled : goal.returns-clause-settled
 returns-clause-settled t c =
@@ -112,11 +122,16 @@ loop-k-preserved t c =
     let s = c.walk.new.state in
     let adv = advances_trans c.spend.ensures.advances c.in_ok-stop.ensures.advances in
     let list = c.values-list.result.now in
-    let last = step_settled known image aim c.next.result c.in-Some.level c.args.c.now c.having-candidate.result
+    let here = step_settled known image c.narrowed-near.result c.next.result c.in-Some.level c.args.c.now
+    c.having-candidate.result
     (get_or list c.loop-k.k 0) s c.next.ensures c.having-candidate.ensures
-    (rw c.in_default-stop.is at c.in_ok-stop.ensures.settled) in record {
+    (rw c.in_default-stop.is at c.in_ok-stop.ensures.settled) in
+    let last = settled_wider known image aim c.narrowed-near.result (after c.in-Some.level) _ c.loop-k.state s
+    c.narrowed-near.ensures old.sound adv here in record {
       advances = advances_trans old.advances adv;
       settled = one_more known image aim c.in-Some.level c.args.c.now list c.loop-k.k c.loop-k.state s adv
           old.settled last;
-      sound = c.in_ok-stop.ensures.sound;
+      sound = subst (λ (b : Option Candidate). IsSound known image b s.best) c.narrowed-near.ensures.besides_is
+          c.in_ok-stop.ensures.sound;
+      seen = c.in_ok-stop.ensures.seen;
     }

@@ -2,6 +2,7 @@
 -- itself with fewer words left.
 use Rattle.std.proofs.Common.{◌<◌, ℕ, get_or, length}
 use Rattle.layout_search.specs.Levels.{after, levels_from, having}
+use Rattle.layout_search.specs.Sights.{AreSeen}
 use Rattle.layout_search.specs.Tried.{IsSound, Advances, SettledOver}
 use Rattle.layout_search.proofs.sweeping.+walk.Given as goal
 
@@ -12,6 +13,7 @@ invariant-loop-k l = record {
   settled : (j : ℕ) → j < l.k
       → SettledOver l.known l.image l.aim (after l.level) (having l.level l.c (get_or l.list j 0)) l.state;
   sound : IsSound l.known l.image l.aim.besides l.state.best;
+  seen : AreSeen l.image l.sights;
 }
 
 abbrev pub decreases-walk : goal.decreases-walk

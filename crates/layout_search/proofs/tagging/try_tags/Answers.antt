@@ -30,6 +30,7 @@ loop-k-preserved c =
       sound = c.in_ok-try_candidate.ensures.sound c.args.known.now
           (λ has. family_of c.args.known.now c.args.image.now c.args.c.now tag c.requires.chosen member has)
           c.loop-k.invariant.sound;
+      seen = c.in_ok-try_candidate.ensures.seen;
     }
 
 pub returns-clause-settled : goal.returns-clause-settled

@@ -9,8 +9,8 @@ pub returns : goal.returns
 returns c =
     let r = c.in-Ok.ensures in
     call_ends (IsUtf8 c.args.words.now) (IsReadable c.args.line.now c.args.words.now)
-    (IsUnreadable c.args.line.now c.args.words.now) c.report_in.result
-    (asked_words c.args.line.now c.args.words.now) c.deref.result.now c.in-Some.asked
+    (IsUnreadable c.args.tree.now c.args.line.now c.args.words.now) c.report_in.result
+    (asked_words c.args.tree.now c.args.line.now c.args.words.now) c.deref.result.now c.in-Some.asked
     (given c.args.name.now c.args.format c.args.tree.now c.args.image.now) c.args.text.now c.report_in.new.text
     c.args.answer.now c.report_in.new.answer r.0.is_text r.0 c.in-Some.ensures (rw c.deref.ensures.value r.1)
     c.report_in.ensures

@@ -1,13 +1,16 @@
--- The image is the caller's bytes, from its copy to its report.
-use Rattle.std.proofs.Common.{◌∙◌}
-use Rattle.report_entry.specs.Memory.{image_bytes}
-use Rattle.report_entry.proofs.PlanFaults.{report_ended}
+-- The storage that the image is was reported. For `report_of`.
+use Rattle.std.proofs.Common.{◌∙◌, sym, subst, Option, Some, inl}
+use Rattle.storage_report.specs.declared.storage.HeldStorage.{HeldStorage}
+use Rattle.storage_report.specs.Held.{IsLookedAt}
 use Rattle.report_entry.proofs.reports.report_of.Goals as goal
 
-pub returns : goal.returns
-returns c =
-    let copied = c.new-image.ensures.bytes ∙ c.in_ok-copy_of.ensures in
-    report_ended c.args.words.now c.args.tree.now c.args.format c.args.name.now c.args.image.now c.in-Ok.layouts
-    c.in_ok-told.told (image_bytes c.new-image.result) (image_bytes c.plan_of.new.image) copied
-    (c.in_ok-told.ensures.same ∙ copied) c.in-Ok.ensures c.in_ok-told.ensures.planned c.report_by.result
-    c.report_by.ensures
+pub returns-in_ok-storage_report-in-Ok-Some : goal.returns-in_ok-storage_report-in-Ok-Some
+returns-in_ok-storage_report-in-Ok-Some c =
+    inl (record {
+      storages = c.in-Ok.storages;
+      by_words = sym c.storages_in.ensures ∙ c.in-Ok.is;
+      held = c.in-Ok-Some.held;
+      looked = subst (λ (o : Option HeldStorage). IsLookedAt c.in-Ok.storages (Some c.args.image.now) o)
+          c.in-Ok-Some.field-0-is c.in-Ok-Some.ensures;
+      reported = c.in_ok-storage_report-in-Ok-Some.ensures;
+    })

@@ -2,7 +2,7 @@
 use Rattle.std.proofs.Common.{subst, Option}
 use Rattle.storage_report.specs.declared.storage.HeldStorage.{HeldStorage}
 use Rattle.report_run.specs.Messages.{seen}
-use Rattle.report_run.specs.Storages.{IsLookedAt}
+use Rattle.storage_report.specs.Held.{IsLookedAt}
 use Rattle.report_run.proofs.StorageEnds.{unread, by_storage}
 use Rattle.report_run.proofs.images.unlogged_report.Goals as goal
 

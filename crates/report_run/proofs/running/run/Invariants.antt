@@ -7,11 +7,11 @@ use Rattle.report_run.proofs.running.run.Given as goal
 
 abbrev pub invariant-loop-i : goal.invariant-loop-i
 invariant-loop-i g l =
-    Continues l.asked (g.I.Images.content l.initial.images) l.paths
+    Continues l.asked (g.I.Images.content l.initial.images) l.paths (g.I.Images.faults l.initial.images)
     (state (g.O.Sink.given l.initial.out) (g.O.Sink.faults l.initial.out)
     (seen (g.E.Sink.given l.initial.messages.errors) (g.E.Sink.faults l.initial.messages.errors)
     l.initial.messages.is_lost) (g.F.Records.made l.initial.records))
-    l.i
+    l.i (g.I.Images.faults l.images)
     (state (g.O.Sink.given l.out) (g.O.Sink.faults l.out)
     (seen (g.E.Sink.given l.messages.errors) (g.E.Sink.faults l.messages.errors) l.messages.is_lost)
     (g.F.Records.made l.records))

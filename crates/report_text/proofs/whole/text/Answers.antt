@@ -13,7 +13,8 @@ pub returns-clause-text : goal.returns-clause-text
 unfolding text_of
 returns-clause-text c =
     let origin : Origin = c.args.report.now.origin in
-    let by : Option DeathTold → List Part = all_parts c.args.title.now c.args.most c.args.report.now in
+    let by : Option DeathTold → List Part = all_parts c.args.title.now c.args.most c.args.better.now
+    c.args.report.now in
     c.from_vec.ensures ∙ c.in_ok-text.ensures.text
     ∙ ap (λ (o : Origin). parts_text o (parts c.as_slice-2.result.now)) c.origin.ensures
     ∙ ap (λ (ps : List Piece). parts_text origin (parts ps)) c.as_slice-2.ensures.value

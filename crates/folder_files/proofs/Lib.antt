@@ -1,0 +1,3 @@
+-- Loops over names, folders, levels and paths.
+mod Steps
+mod Whole

@@ -1,0 +1,80 @@
+-- A record that pstore left packed: the report of its text
+use Rattle.std.specs.Prelude.{◌≡◌, ◌⊎◌, ⊤, ℕ, ◌<◌, Bool, true, false, ◌&&◌, List, length, take, Option, Some, IfSome}
+use Rattle.outside.specs.Outside.{Rose}
+use Rattle.packed_record.specs.Packed.{is_packed_name, stream_of, IsText}
+use Rattle.log_image.specs.Images.{IsLogImage}
+use Rattle.region_report.specs.Reports.{ReportHeld}
+use Rattle.report_tool.specs.Images.{IsReported}
+use Rattle.report_run.specs.declared.plans.Asked.{Asked}
+use Rattle.report_run.specs.declared.plans.Logs.{Logs}
+use Rattle.report_run.specs.declared.plans.Logs.TheVariants.{Never}
+use Rattle.report_run.specs.declared.packed.PackedLog.{PackedLog}
+use Rattle.report_run.specs.declared.failures.Failure.{Failure}
+use Rattle.report_run.specs.declared.failures.Failure.TheVariants.{Memory, Unread, NoText}
+use Rattle.report_run.specs.Logs.{most_log, IsLogUnreported}
+use Rattle.report_run.specs.Messages.{Seen, IsPartTold}
+use Rattle.report_run.specs.Plans.{dressed, map_of}
+use Rattle.report_spec.specs.declared.TextFault.{TextFault}
+
+abbrev pub takes_logs : Logs → Bool
+takes_logs Never = false
+takes_logs other = true
+
+-- a file is taken by its name
+abbrev pub is_packed : Logs → List ℕ → Bool
+is_packed logs path = takes_logs logs && is_packed_name path
+
+-- the text of the file's bytes, and why no more of it inflates
+pub record HasText (holds : Option (List ℕ)) (fault : Option TextFault) (text : List ℕ) : Type 0 where
+  pub bytes : List ℕ
+  pub are : IfSome holds (λ image. bytes ≡ take most_log image)
+  pub is_text : IsText fault (stream_of bytes) most_log text
+
+-- as a log, whose last boot is a region
+pub record IsPackedLog (holds : Option (List ℕ)) (packed : PackedLog) : Type 0 where
+  pub text : List ℕ
+  pub has_text : HasText holds packed.fault text
+  pub is_log : IsLogImage text packed.log
+
+pub record HasNoText (holds : Option (List ℕ)) : Type 0 where
+  pub fault : Option TextFault
+  pub text : List ℕ
+  pub has_text : HasText holds fault text
+  pub none : length text ≡ 0
+
+-- memory ran out, it could not be read, or nothing of it inflates
+abbrev pub IsUninflated : Option (List ℕ) → ℕ → ℕ → Failure → Type 0
+IsUninflated holds before now Memory = ⊤
+IsUninflated holds before now Unread = Rose before now
+IsUninflated holds before now NoText = HasNoText holds
+IsUninflated holds before now other = ⊥
+
+-- the report of that region, behind the line on what does not inflate
+pub record IsPackedReport (asked : Asked) (path : List ℕ) (holds given now : Option (List ℕ)) (a b : Seen)
+    (report : ReportHeld) : Type 0 where
+  pub packed : PackedLog
+  pub is_log : IsPackedLog holds packed
+  pub told : IsPartTold path packed.fault a b
+  pub reported : IsReported asked.format path (dressed packed.log.plan asked.lines (map_of asked.map))
+      (Some packed.log.region.items) given now report
+
+-- there is no text: nothing was given out
+pub record IsPackedUnread (holds : Option (List ℕ)) (read_before read_now : ℕ) (given now : Option (List ℕ))
+    (a b : Seen) (why : Failure) : Type 0 where
+  pub cause : IsUninflated holds read_before read_now why
+  pub unput : now ≡ given
+  pub silent : b ≡ a
+
+-- or it was not reported
+pub record IsPackedUnreported (asked : Asked) (path : List ℕ) (holds given now : Option (List ℕ))
+    (put_before put_now : ℕ) (a b : Seen) (why : Failure) : Type 0 where
+  pub packed : PackedLog
+  pub is_log : IsPackedLog holds packed
+  pub told : IsPartTold path packed.fault a b
+  pub cause : IsLogUnreported asked path packed.log given now put_before put_now why
+
+abbrev pub IsNoPackedReport : Asked → List ℕ → Option (List ℕ) → ℕ → ℕ → Option (List ℕ) → Option (List ℕ) → ℕ → ℕ
+    → Seen → Seen → Failure → Type 0
+IsNoPackedReport asked path holds read_before read_now given now put_before put_now a b why =
+    IsPackedUnread holds read_before read_now given now a b why
+    ⊎ IsPackedUnreported asked path holds given now put_before put_now a b why

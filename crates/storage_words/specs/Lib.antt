@@ -1,0 +1,3 @@
+pub mod Words
+pub mod Division
+pub mod Rows
