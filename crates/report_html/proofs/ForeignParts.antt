@@ -1,5 +1,5 @@
 -- The foreign parts of a page
-use Rattle.std.proofs.Common.{◌≡◌, ℕ, zero, suc, ◌+◌, ◌<◌, ◌≤◌, ◌==◌, Bool, true, false, cond, nat_lt, List, [], ◌∷◌}
+use Rattle.std.proofs.Common.{◌≡◌, ℕ, zero, suc, ◌+◌, ◌<◌, ◌≤◌, ◌==◌, ◌&&◌, Bool, true, false, cond, nat_lt, List, [], ◌∷◌}
 use Rattle.std.proofs.Common.{◌++◌, length, slice_get, map, take, drop, ◌-◌, ◌*◌, ◌/◌, All, Option, Some, None, codes}
 use Rattle.std.proofs.Common.{if◌then◌else◌, append_assoc, refl, sym, ap, ap₂, ◌∙◌, subst, append-nil, get_or, inl, inr, arith}
 use Rattle.std.specs.Prelude.{⊤, filter, flat_map}
@@ -38,25 +38,27 @@ use Rattle.death_spec.specs.Reports.{death_of}
 use Rattle.prz_read.specs.Saving.{saved}
 use Rattle.prz_region.proofs.Chains.{AreBytes-take, AreBytes-drop}
 use Rattle.region_report.specs.Reports.{ReportHeld}
-use Rattle.report_html.specs.Pieces.{Part, Words, Bytes, parts_text}
+use Rattle.report_html.specs.Pieces.{Part, Words, Bytes, Named, Link, parts_text}
 use Rattle.report_html.specs.declared.spots.Stretch.{Stretch}
 use Rattle.report_html.specs.declared.spots.Stretch.TheVariants.{Header, Blocks}
 use Rattle.report_html.specs.declared.spots.Spot.{Spot}
 use Rattle.report_html.specs.Spots.{stretch_parts, verdict_parts, spot_parts}
-use Rattle.report_html.specs.Spots.{spots_opening, spots_parts}
+use Rattle.report_html.specs.Spots.{spots_of, spots_opening, spots_parts}
 use Rattle.report_html.specs.Regions.{picture}
 use Rattle.report_html.specs.Pictures.{numbers_parts}
 use Rattle.report_html.specs.Pictures.{fitting_parts, label_parts, place_parts, zone_name, frame_parts, map_parts}
 use Rattle.report_html.specs.Pictures.{corrected_parts, header_parts, blocks_parts, run_parts, runs}
-use Rattle.report_html.specs.Pictures.{unused_parts, parity_parts, strip_parts, row_parts, zone_parts, drawn_parts, width_of}
-use Rattle.report_html.specs.Pictures.{all_drawn}
-use Rattle.report_html.specs.Before.{told_before, time_after, named_below, before_parts, before_bytes}
+use Rattle.report_html.specs.Pictures.{unused_parts, parity_parts, strip_parts, width_of, region_opening, drawn_of, map_of}
+use Rattle.report_html.specs.ZoneRows.{ZoneRow, is_joined, next_row, up_to, read_cells, name_parts, place_cells, zone_parts}
+use Rattle.report_html.specs.ZoneRows.{held_parts, done_parts, rows_after}
+use Rattle.report_html.specs.Before.{told_before, time_after, line_below, named_below, context_below, before_parts}
+use Rattle.report_html.specs.Before.{before_bytes}
 use Rattle.report_html.specs.Facts.{when_parts, up_parts, bytes_parts, machine_parts, some_bytes, named_bytes, machine_bytes}
 use Rattle.report_html.specs.Ended.{end_facts, end_parts as ending_parts, end_bytes}
 use Rattle.report_html.specs.Died.{second_parts, said_parts, why_parts, fact_parts}
 use Rattle.report_spec.specs.Excerpts.{place_above, below}
 use Rattle.report_html.specs.Died.{context_parts, rest_parts, rest_end, excerpt_parts, folded_parts, shown_opening, around_parts}
-use Rattle.report_html.specs.Died.{death_parts, died_parts, second_bytes}
+use Rattle.report_html.specs.Died.{console_words, teller_parts, death_parts, died_parts, second_bytes}
 use Rattle.report_html.specs.Died.{said_bytes, why_bytes, context_bytes, rest_bytes, excerpt_bytes, around_bytes, death_bytes}
 use Rattle.report_html.specs.Died.{died_bytes}
 use Rattle.report_html.specs.Listed.{below_parts, telling_parts, above_parts, say_parts, first_parts, head_parts, unfolded}
@@ -68,7 +70,7 @@ use Rattle.report_html.specs.Causes.{line_part, cause_parts, others_parts, table
 use Rattle.report_html.specs.Causes.{causes_parts, line_bytes, lines_of, causes_bytes}
 use Rattle.report_html.specs.Parameters.{parameters_parts}
 use Rattle.report_html.specs.declared.style.TheConstants.{STYLE}
-use Rattle.report_html.specs.declared.words.TheConstants.{HEAD, NAVIGATION, END}
+use Rattle.report_html.specs.declared.words.TheConstants.{HEAD, NAVIGATION, END, KEY, ZONES, STRIP, READ, TOLD}
 use Rattle.report_html.specs.Groups.{are_grouped, group_in, is_same, end_parts, begin_parts, edge_parts}
 use Rattle.report_html.specs.Pages.{time_parts, packing_parts, content_parts, summary_parts, record_parts, listed_parts}
 use Rattle.report_html.specs.Pages.{records_after, list_parts, records_opening, named_parts, name_bytes}
@@ -122,20 +124,44 @@ of-runs z blocks = none-of (run_parts z) (λ r. of-blocks z r.from r.to (Some r.
 of-unused : (z : Zone) (used : ℕ) → foreign_of (unused_parts z used) ≡ []
 of-unused z used = of-choice (nat_lt used z.blocks) _ [] (of-blocks z used z.blocks None) refl
 
-of-row : (z : Zone) (r : Option ZoneReading) → foreign_of (row_parts z r) ≡ []
-of-row z None = refl
-of-row z (Some r) = refl
-
 of-parity : (z : Zone) → foreign_of (parity_parts z) ≡ []
 of-parity z = of-choice (nat_lt (12 + z.cap) z.size) _ [] refl refl
 
 of-strip : (z : Zone) (p : PartStates) → foreign_of (strip_parts z p) ≡ []
 of-strip z p = simp (both, of-header, of-runs, of-unused, of-parity)
 
-of-zone : (d : Saved × PartStates) → foreign_of (zone_parts d) ≡ []
-of-zone d =
-    and-none (row_parts d.0.0 d.0.1 ++ strip_parts d.0.0 d.1) (Words (codes "</td></tr>\n") ∷ []) []
-    (and-none (row_parts d.0.0 d.0.1) (strip_parts d.0.0 d.1) [] (of-row d.0.0 d.0.1) (of-strip d.0.0 d.1)) refl
+of-up-to : (from to : ℕ) → foreign_of (up_to from to) ≡ []
+of-up-to from to = of-choice (from == to) [] _ refl refl
+
+of-cells : (r : Option ZoneReading) → foreign_of (read_cells r) ≡ []
+of-cells None = refl
+of-cells (Some r) = refl
+
+of-zone : (w : ZoneRow) → foreign_of (zone_parts w) ≡ []
+of-zone w =
+    let z : Zone = w.first.0.0 in
+    let named : List Part = name_parts z w.last in
+    let placed : List Part = place_cells z w.last w.first.0.1 in
+    let cells : List Part = read_cells w.first.0.1 in
+    let strip : List Part = strip_parts z w.first.1 in
+    let begin : List Part = Words STRIP.now ∷ [] in
+    and-none (named ++ placed ++ cells ++ begin ++ strip) (Words (codes "</td></tr>\n") ∷ []) []
+    (and-none (named ++ placed ++ cells ++ begin) strip []
+    (and-none (named ++ placed ++ cells) begin []
+    (and-none (named ++ placed) cells []
+    (and-none named placed []
+    (of-up-to z.name.index w.last.name.index) refl) (of-cells w.first.0.1)) refl) (of-strip z w.first.1)) refl
+
+of-held : (held : Option ZoneRow) → foreign_of (held_parts held) ≡ []
+of-held None = refl
+of-held (Some w) = of-zone w
+
+of-rows-after : (held : Option ZoneRow) (ds : List (Saved × PartStates)) → foreign_of (rows_after held ds) ≡ []
+unfolding rows_after
+of-rows-after held [] = of-held held
+of-rows-after held (d ∷ ds) =
+    and-none (done_parts held d) (rows_after (Some (next_row held d)) ds) []
+    (of-choice (is_joined held d) [] (held_parts held) refl (of-held held)) (of-rows-after (Some (next_row held d)) ds)
 
 of-label : (z : Zone) (whole : ℕ) → foreign_of (label_parts z whole) ≡ []
 of-label z whole = of-choice (nat_lt (16 * z.size) whole) [] (fitting_parts z whole) refl refl
@@ -147,14 +173,8 @@ of-map whole d =
     (and-none (front ++ strip_parts d.0.0 d.1) (label_parts d.0.0 whole) []
     (and-none front (strip_parts d.0.0 d.1) [] refl (of-strip d.0.0 d.1)) (of-label d.0.0 whole)) refl
 
-of-drawn : (in_table : Bool) (whole : ℕ) (d : Saved × PartStates) → foreign_of (drawn_parts in_table whole d) ≡ []
-of-drawn true whole d = of-zone d
-of-drawn false whole d = of-map whole d
-
-of-all : (in_table : Bool) (zones : List Zone) (report : ReportHeld) → foreign_of (all_drawn in_table zones report) ≡ []
-of-all in_table zones report =
-    none-of (drawn_parts in_table (width_of zones)) (of-drawn in_table (width_of zones))
-    (zip (zip zones report.logs.readings) report.parts)
+of-all : (zones : List Zone) (report : ReportHeld) → foreign_of (map_of zones report) ≡ []
+of-all zones report = none-of (map_parts (width_of zones)) (of-map (width_of zones)) (drawn_of zones report)
 
 of-stretch : (stretch : Stretch) → foreign_of (stretch_parts stretch) ≡ []
 of-stretch Header = refl
@@ -178,7 +198,20 @@ of-spots (s ∷ ss) =
     ∙ rw (of-rows (s ∷ ss)) refl
 
 of-picture : (zones : List Zone) (report : ReportHeld) → foreign_of (picture zones report) ≡ []
-of-picture zones report = simp (both, of-all, of-spots)
+of-picture zones report =
+    let opening : List Part = region_opening (width_of zones) (length zones) in
+    let spots : List Part = spots_parts (spots_of zones report.parts) in
+    let drawn : List Part = map_of zones report in
+    let rows : List Part = rows_after None (drawn_of zones report) in
+    let key : List Part = Words KEY.now ∷ [] in
+    let head : List Part = Words ZONES.now ∷ [] in
+    and-none (opening ++ drawn ++ key ++ spots ++ head ++ rows) (Words (codes "</table></div>\n") ∷ []) []
+    (and-none (opening ++ drawn ++ key ++ spots ++ head) rows []
+    (and-none (opening ++ drawn ++ key ++ spots) head []
+    (and-none (opening ++ drawn ++ key) spots []
+    (and-none (opening ++ drawn) key []
+    (and-none opening drawn [] refl (of-all zones report)) refl) (of-spots (spots_of zones report.parts))) refl)
+    (of-rows-after None (drawn_of zones report))) refl
 
 -- ---- a record has what people read of it
 
@@ -362,14 +395,57 @@ of-named-below : (words text : List ℕ) (span : Option Span)
 of-named-below words text None = refl
 of-named-below words text (Some span) = refl
 
+of-context-below : (text : List ℕ) (d : Death) → foreign_of (context_below text d)
+    ≡ named_bytes text d.cpu ++ named_bytes text d.function ++ named_bytes text d.task
+of-context-below text d =
+    let cpu : List Part = named_below (codes "\nCPU ") text d.cpu in
+    let function : List Part = named_below (codes "\nFunction ") text d.function in
+    let task : List Part = named_below (codes "\nTask ") text d.task in
+    let b : Option Span → List (List ℕ) = named_bytes text in
+    and-of (cpu ++ function) task (b d.cpu ++ b d.function) (b d.task)
+    (and-of cpu function (b d.cpu) (b d.function) (of-named-below (codes "\nCPU ") text d.cpu)
+    (of-named-below (codes "\nFunction ") text d.function)) (of-named-below (codes "\nTask ") text d.task)
+
 of-before : (before : Option DeathTold) → foreign_of (before_parts before) ≡ before_bytes before
 of-before None = refl
-of-before (Some t) = simp (both, of-after, of-named-below, append-nil)
+of-before (Some t) =
+    let text : List ℕ = readable t.teller in
+    let head : List Part = Words (codes "<tr><th scope=\"row\">Before it</th><td>") ∷ Link t.teller.name ∷ [] in
+    let time : List Part = time_after t.teller.time in
+    let line : List Part = line_below text t.death.telling in
+    let context : List Part = context_below text t.death in
+    let said : List (List ℕ) = part text t.death.telling.text t.death.telling.end ∷ [] in
+    let named : List (List ℕ) =
+    named_bytes text t.death.cpu ++ named_bytes text t.death.function ++ named_bytes text t.death.task in
+    and-none (head ++ time ++ line ++ context) (Words (codes "</td></tr>\n") ∷ []) (before_bytes (Some t))
+    (and-of (head ++ time ++ line) context said named
+    (and-of (head ++ time) line [] said (and-none head time [] refl (of-after t.teller.time)) refl)
+    (of-context-below text t.death)) refl
+
+of-teller : (zones : List Saved) (name : Name) (words : List ℕ) → foreign_of (teller_parts zones name words) ≡ []
+of-teller zones name words =
+    let front : List Part = Words (codes "<tr><th scope=\"row\">Told by</th><td>") ∷ Link name ∷ Words words
+    ∷ Words READ.now ∷ [] in
+    let back : List Part = Words TOLD.now ∷ Named name ∷ Words (codes "</h2>\n") ∷ [] in
+    and-none (front ++ read_parts zones name) back []
+    (and-none front (read_parts zones name) [] refl (of-read zones name)) refl
 
 of-death : (signature : List ℕ) (zones : List Saved) (records : List RecordShown) (t : DeathTold)
     → foreign_of (death_parts signature zones records t) ≡ death_bytes signature records t
 of-death signature zones records t =
-    simp (both, of-when, of-up, of-fact, of-bytes, of-before, of-clean, of-number, of-around, append-nil)
+    let text : List ℕ = readable t.teller in
+    let name : Name = t.teller.name in
+    let words : List ℕ = console_words t (console_of records) in
+    let facts : List Part = when_parts t.teller.time ++ up_parts (uptime_of text t.death.telling)
+    ++ context_parts text t.death ++ bytes_parts (codes "Signature") signature
+    ++ machine_parts (machine_of t (console_of records)) ++ before_parts (told_before name records) in
+    let own : List (List ℕ) = some_bytes (uptime_of text t.death.telling) ++ context_bytes text t.death
+    ++ some_bytes signature ++ machine_bytes (machine_of t (console_of records))
+    ++ before_bytes (told_before name records) in
+    let first : foreign_of facts ≡ own = simp (both, of-when, of-up, of-fact, of-bytes, of-before, append-nil) in
+    and-of (facts ++ teller_parts zones name words) (around_parts name text t.death) own (around_bytes text t.death)
+    (and-none facts (teller_parts zones name words) own first (of-teller zones name words))
+    (of-around name text t.death)
 
 of-ending : (zones : List Saved) (t : Option EndTold) → foreign_of (ending_parts zones t) ≡ end_bytes t
 of-ending zones None = refl

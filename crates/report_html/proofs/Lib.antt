@@ -10,6 +10,7 @@ pub mod NonZeroCounts
 pub mod PartSums
 pub mod Blocks
 pub mod PictureZones
+pub mod RowsOfZones
 pub mod LogLines
 pub mod RecordGroups
 pub mod Earlier

@@ -2,6 +2,7 @@ pub mod Logs
 pub mod Pieces
 pub mod Pictures
 pub mod Covers
+pub mod ZoneRows
 pub mod Spots
 pub mod Regions
 pub mod Facts

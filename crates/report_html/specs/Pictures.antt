@@ -13,7 +13,7 @@ use Rattle.zone_spec.specs.declared.PartState.{PartState}
 use Rattle.zone_spec.specs.declared.PartState.TheVariants.{Read, Bad}
 use Rattle.zone_spec.specs.PartStates.{PartStates}
 use Rattle.region_report.specs.Reports.{ReportHeld}
-use Rattle.report_html.specs.declared.words.TheConstants.{CELL, STRIP, FRAME, MAP}
+use Rattle.report_html.specs.declared.words.TheConstants.{FRAME, MAP}
 use Rattle.report_html.specs.Pieces.{Part, Words, Count}
 
 -- ---- zones
@@ -192,38 +192,7 @@ map_parts whole d =
     place_parts whole d.0.0 ++ zone_name d.0.0 ++ frame_parts d.0.1 ++ strip_parts d.0.0 d.1
     ++ label_parts d.0.0 whole ++ Words (codes "</svg>\n") ∷ []
 
--- ---- the table of zones
-
--- the words of a header as it reads, corrected bytes and bad parts
-abbrev pub reading_cells : ZoneReading → List Part
-reading_cells r =
-    Words CELL.now ∷ Count r.words.start ∷ Words CELL.now ∷ Count r.words.size ∷ Words CELL.now ∷ Count r.corrected
-    ∷ Words CELL.now ∷ Count r.bad ∷ []
-
-abbrev pub unread_cells : List Part
-unread_cells = Words (codes "</td><td colspan=\"4\">") ∷ []
-
-abbrev pub read_cells : Option ZoneReading → List Part
-read_cells None = unread_cells
-read_cells (Some r) = reading_cells r
-
--- a zone's name, state, place and size, and what was read; and where its strip begins below them
-abbrev pub row_parts : Zone → Option ZoneReading → List Part
-row_parts z r =
-    Words (codes "<tr><th scope=\"row\">") ∷ [] ++ zone_name z ++ Words (codes "</th><td>") ∷ Words (read_words r)
-    ∷ Words CELL.now ∷ Count z.at ∷ Words CELL.now ∷ Count z.size ∷ [] ++ read_cells r
-    ++ Words STRIP.now ∷ []
-
--- a zone with its reading and its strip
-abbrev pub zone_parts : Saved × PartStates → List Part
-zone_parts d = row_parts d.0.0 d.0.1 ++ strip_parts d.0.0 d.1 ++ Words (codes "</td></tr>\n") ∷ []
-
 -- ---- the whole
-
--- a zone in the table, or in the map of so many bytes
-abbrev pub drawn_parts : Bool → ℕ → Saved × PartStates → List Part
-drawn_parts true whole d = zone_parts d
-drawn_parts false whole d = map_parts whole d
 
 -- where a zone ends
 abbrev pub end_of : Option Zone → ℕ
@@ -239,6 +208,9 @@ region_opening whole count =
     Words (codes "<h2 id=\"region\">The region: ") ∷ Count whole ∷ Words (codes " bytes, ") ∷ Count count
     ∷ Words MAP.now ∷ []
 
-abbrev pub all_drawn : Bool → List Zone → ReportHeld → List Part
-all_drawn in_table zones report =
-    flat_map (drawn_parts in_table (width_of zones)) (zip (zip zones report.logs.readings) report.parts)
+-- the zones with their readings and their parts
+abbrev pub drawn_of : List Zone → ReportHeld → List (Saved × PartStates)
+drawn_of zones report = zip (zip zones report.logs.readings) report.parts
+
+abbrev pub map_of : List Zone → ReportHeld → List Part
+map_of zones report = flat_map (map_parts (width_of zones)) (drawn_of zones report)

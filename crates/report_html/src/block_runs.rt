@@ -37,7 +37,8 @@ pub fn add_numbers(pieces: &mut Vec<Piece<'_>>, from: u64, to: u64) -> Result<()
     }
 }
 
-fn is_alike(a: PartState, b: PartState) -> bool
+/// Whether two parts read alike.
+pub fn is_alike(a: PartState, b: PartState) -> bool
     ensures { result ≡ is_alike a b }
 {
     match (a, b) {

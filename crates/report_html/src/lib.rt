@@ -27,6 +27,7 @@ mod spots;
 mod style;
 mod warnings;
 mod words;
+mod zone_rows;
 
 pub use escaping::push_escaped;
 pub use laws::{

@@ -1,4 +1,4 @@
-// The picture of an image: its zones to scale, and a table of them with their blocks.
+// The picture of an image: its zones to scale, with their blocks.
 ghost use Rattle.std.specs.Prelude.{◌≡◌, ◌≤◌, ◌++◌, flat_map, Some, OnOk};
 ghost use Rattle.std.specs.Option.{option_copied};
 ghost use Rattle.report_html.specs.Pieces.{parts};
@@ -6,16 +6,15 @@ ghost use Rattle.report_html.specs.Pictures.{class_words, rows_above as rows_abo
 ghost use Rattle.report_html.specs.Pictures.{header_parts, blocks_word, strip_opening, outline_parts, parity_parts};
 ghost use Rattle.report_html.specs.Pictures.{strip_parts, frame_parts, map_parts};
 ghost use Rattle.report_html.specs.Pictures.{range_parts, count_parts, corrected_parts, blocks_opening, blocks_parts};
-ghost use Rattle.report_html.specs.Pictures.{runs, run_parts, unused_parts, reading_cells, unread_cells, read_cells};
-ghost use Rattle.report_html.specs.Pictures.{row_parts, zone_parts, drawn_parts, end_of, width_of, region_opening};
-ghost use Rattle.report_html.specs.Pictures.{all_drawn};
+ghost use Rattle.report_html.specs.Pictures.{runs, run_parts, unused_parts, end_of, width_of, region_opening, map_of};
 ghost use Rattle.report_html.specs.Regions.{picture};
 
 use crate::block_runs::{add_numbers, block_at, run_end};
 use crate::pieces::{Piece, add};
 use crate::region::{add_label, add_place, add_zone_name, read_text};
 use crate::spots::{add_spots, spots_of};
-use crate::words::{CELL, FRAME, KEY, MAP, STRIP, ZONES};
+use crate::words::{FRAME, KEY, MAP, ZONES};
+use crate::zone_rows::add_rows;
 use prz_read::Reading;
 use region_report::{PartState, Report, ZoneParts};
 use std::alloc::{AllocError, Global};
@@ -259,7 +258,11 @@ fn add_parity(pieces: &mut Vec<Piece<'_>>, zone: &Zone) -> Result<(), AllocError
 }
 
 /// Adds the bytes of a zone: its header, its blocks and its parity.
-fn add_strip(pieces: &mut Vec<Piece<'_>>, zone: &Zone, states: &ZoneParts) -> Result<(), AllocError>
+pub fn add_strip(
+    pieces: &mut Vec<Piece<'_>>,
+    zone: &Zone,
+    states: &ZoneParts,
+) -> Result<(), AllocError>
     ensures { OnOk result (parts pieces.new.items ≡ parts pieces.old.items ++ strip_parts zone.now states.now) }
 {
     let blocks = states.blocks.as_slice();
@@ -305,111 +308,6 @@ fn add_map_zone(
     Ok(())
 }
 
-/// Adds the words of a header as it reads, corrected bytes and bad parts.
-fn add_reading(pieces: &mut Vec<Piece<'_>>, reading: &Reading) -> Result<(), AllocError>
-    ensures { OnOk result (parts pieces.new.items ≡ parts pieces.old.items ++ reading_cells reading.now) }
-{
-    let (start, size) = (
-        u64::from(reading.words.start),
-        u64::from(reading.words.size),
-    );
-    let (corrected, bad) = (u64::from(reading.corrected), u64::from(reading.bad));
-    add(
-        pieces,
-        &[
-            Piece::Own(CELL),
-            Piece::Number(start),
-            Piece::Own(CELL),
-            Piece::Number(size),
-            Piece::Own(CELL),
-            Piece::Number(corrected),
-            Piece::Own(CELL),
-            Piece::Number(bad),
-        ],
-    )?;
-    Ok(())
-}
-
-fn add_unread(pieces: &mut Vec<Piece<'_>>) -> Result<(), AllocError>
-    ensures { OnOk result (parts pieces.new.items ≡ parts pieces.old.items ++ unread_cells) }
-{
-    add(pieces, &[Piece::Own("</td><td colspan=\"4\">")])
-}
-
-fn add_read_cells(pieces: &mut Vec<Piece<'_>>, reading: Option<&Reading>) -> Result<(), AllocError>
-    ensures { OnOk result (parts pieces.new.items
-        ≡ parts pieces.old.items ++ read_cells (option_copied reading.entry)) }
-{
-    match reading {
-        Some(reading) => add_reading(pieces, reading),
-        None => add_unread(pieces),
-    }
-}
-
-/// Adds a zone's row, and where its strip begins.
-fn add_row(
-    pieces: &mut Vec<Piece<'_>>,
-    zone: &Zone,
-    reading: Option<&Reading>,
-) -> Result<(), AllocError>
-    ensures { OnOk result (parts pieces.new.items
-        ≡ parts pieces.old.items ++ row_parts zone.now (option_copied reading.entry)) }
-{
-    let read = read_text(reading);
-    let (at, size) = (u64::from(zone.at), u64::from(zone.size));
-    add(pieces, &[Piece::Own("<tr><th scope=\"row\">")])?;
-    add_zone_name(pieces, zone)?;
-    add(
-        pieces,
-        &[
-            Piece::Own("</th><td>"),
-            Piece::Own(read),
-            Piece::Own(CELL),
-            Piece::Number(at),
-            Piece::Own(CELL),
-            Piece::Number(size),
-        ],
-    )?;
-    add_read_cells(pieces, reading)?;
-    add(pieces, &[Piece::Own(STRIP)])?;
-    Ok(())
-}
-
-/// Adds a zone to the table: its row, and its strip.
-fn add_zone(
-    pieces: &mut Vec<Piece<'_>>,
-    zone: &Zone,
-    reading: Option<&Reading>,
-    states: &ZoneParts,
-) -> Result<(), AllocError>
-    ensures { OnOk result (parts pieces.new.items
-        ≡ parts pieces.old.items ++ zone_parts ((zone.now, option_copied reading.entry), states.now)) }
-{
-    add_row(pieces, zone, reading)?;
-    add_strip(pieces, zone, states)?;
-    add(pieces, &[Piece::Own("</td></tr>\n")])?;
-    Ok(())
-}
-
-/// Adds a zone to the table, or to the map of so many bytes.
-fn add_drawn(
-    pieces: &mut Vec<Piece<'_>>,
-    in_table: bool,
-    whole: u64,
-    zone: &Zone,
-    reading: Option<&Reading>,
-    states: &ZoneParts,
-) -> Result<(), AllocError>
-    ensures { OnOk result (parts pieces.new.items ≡ parts pieces.old.items
-        ++ drawn_parts in_table whole ((zone.now, option_copied reading.entry), states.now)) }
-{
-    if in_table {
-        add_zone(pieces, zone, reading, states)
-    } else {
-        add_map_zone(pieces, whole, zone, reading, states)
-    }
-}
-
 fn zone_end(zone: &Zone) -> u64
     ensures { result ≡ end_of (Some zone.now) }
 {
@@ -426,21 +324,15 @@ fn width(zones: &[Zone]) -> u64
     }
 }
 
-fn add_zones(
-    pieces: &mut Vec<Piece<'_>>,
-    in_table: bool,
-    zones: &[Zone],
-    report: &Report,
-) -> Result<(), AllocError>
-    ensures { OnOk result (parts pieces.new.items ≡ parts pieces.old.items
-        ++ all_drawn in_table zones.now report.now) }
+fn add_map(pieces: &mut Vec<Piece<'_>>, zones: &[Zone], report: &Report) -> Result<(), AllocError>
+    ensures { OnOk result (parts pieces.new.items ≡ parts pieces.old.items ++ map_of zones.now report.now) }
 {
     let (logs, states) = (report.logs(), report.parts());
     let whole = width(zones);
     let count = zones.len().min(states.len()).min(logs.len() as usize);
     for i in 0..count {
         let reading = logs.reading(i as u32);
-        add_drawn(pieces, in_table, whole, &zones[i], reading, &states[i])?;
+        add_map_zone(pieces, whole, &zones[i], reading, &states[i])?;
     }
     Ok(())
 }
@@ -470,13 +362,13 @@ pub fn add_picture(
     ensures { OnOk result (parts pieces.new.items ≡ parts pieces.old.items ++ picture zones.now report.now) }
 {
     add_region_opening(pieces, width(zones), zones.len() as u64)?;
-    add_zones(pieces, false, zones, report)?;
+    add_map(pieces, zones, report)?;
     add(pieces, &[Piece::Own(KEY)])?;
     let states = report.parts();
     let spots = spots_of(alloc, zones, states)?;
     add_spots(pieces, spots.as_slice())?;
     add(pieces, &[Piece::Own(ZONES)])?;
-    add_zones(pieces, true, zones, report)?;
+    add_rows(pieces, zones, report)?;
     add(pieces, &[Piece::Own("</table></div>\n")])?;
     Ok(())
 }

@@ -55,7 +55,8 @@ text{fill:var(--fg);font:.75rem system-ui,sans-serif}\n\
 summary{padding:.25rem 0;cursor:pointer}\n\
 summary span,summary mark{display:inline-block;margin-left:.75rem}\n\
 summary mark{padding:0 .375rem;background:var(--mark);color:inherit;font-weight:700}\n\
-summary .say{display:block;margin:.5rem 0 0;font:700 .8125rem ui-monospace,\"DejaVu Sans Mono\",Menlo,Consolas,monospace;\n\
+summary .say{display:inline-block;width:calc(100% - 1.5rem);margin:.5rem 0 0;vertical-align:top;\n\
+font:700 .8125rem ui-monospace,\"DejaVu Sans Mono\",Menlo,Consolas,monospace;\n\
 white-space:pre-wrap;overflow-wrap:anywhere}\n\
 summary .say span{display:inline;margin:0;font-weight:400;color:var(--dim)}\n\
 .group{border-top:1px solid var(--line)}\n\
@@ -73,6 +74,7 @@ white-space:pre-wrap;overflow-wrap:anywhere;tab-size:8}\n\
 .log .l4{border-left-color:var(--l4)}\n\
 .log .l5{border-left-color:var(--l5)}\n\
 .log .l7{border-left:.3125rem dotted var(--l7);color:var(--l7)}\n\
+.legend.log i{margin:0;padding-left:.5rem;text-indent:0}\n\
 footer{margin-top:2rem;border-top:1px solid var(--line);color:var(--dim)}\n\
 :target{outline:2px solid var(--link);outline-offset:2px}\n\
 @media(max-width:48rem){.stack tr{display:block;border-top:1px solid var(--line)}.stack th{display:none}\n\

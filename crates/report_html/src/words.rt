@@ -55,13 +55,13 @@ aria-label=\"The region to scale; the table below has its numbers\">\n";
 
 /// The key of the map.
 pub const KEY: &str = "</svg>\n<ul class=\"legend\">\n\
-<li><svg class=\"key\"><rect class=\"ok\" y=\"12\" width=\"16\" height=\"12\"/></svg>clean</li>\n\
-<li><svg class=\"key\"><rect class=\"fix\" y=\"9\" width=\"8\" height=\"15\"/>\
+<li><svg class=\"key\" viewBox=\"0 0 16 24\" preserveAspectRatio=\"none\"><rect class=\"ok\" y=\"12\" width=\"16\" height=\"12\"/></svg>clean</li>\n\
+<li><svg class=\"key\" viewBox=\"0 0 16 24\" preserveAspectRatio=\"none\"><rect class=\"fix\" y=\"9\" width=\"8\" height=\"15\"/>\
 <rect class=\"fix\" x=\"8\" y=\"2\" width=\"8\" height=\"22\"/></svg>corrected, higher for more bytes</li>\n\
-<li><svg class=\"key\"><rect class=\"bad\" width=\"16\" height=\"24\"/></svg>\
+<li><svg class=\"key\" viewBox=\"0 0 16 24\" preserveAspectRatio=\"none\"><rect class=\"bad\" width=\"16\" height=\"24\"/></svg>\
 bad: more damage than parity repairs</li>\n\
-<li><svg class=\"key\"><rect class=\"off\" y=\"20\" width=\"16\" height=\"4\"/></svg>not in use</li>\n\
-<li><svg class=\"key\"><rect class=\"par\" y=\"12\" width=\"16\" height=\"12\"/></svg>parity</li>\n\
+<li><svg class=\"key\" viewBox=\"0 0 16 24\" preserveAspectRatio=\"none\"><rect class=\"off\" y=\"20\" width=\"16\" height=\"4\"/></svg>not in use</li>\n\
+<li><svg class=\"key\" viewBox=\"0 0 16 24\" preserveAspectRatio=\"none\"><rect class=\"par\" y=\"12\" width=\"16\" height=\"12\"/></svg>parity</li>\n\
 </ul>\n<p class=\"note\">To scale. Each zone has its header, its blocks and its parity.</p>\n";
 
 /// The head of the table of zones.
@@ -81,7 +81,7 @@ pub const STRIP: &str =
 
 /// The frame of a zone, and where its strip begins.
 pub const FRAME: &str = "</title><rect class=\"zone\" width=\"100%\" height=\"52\"/>\
-<svg class=\"strip\" y=\"28\" viewBox=\"";
+<svg class=\"strip\" y=\"28\" height=\"24\" viewBox=\"";
 
 /// The head of the table of headers and blocks that are not clean.
 pub const SPOTS: &str = "</b></summary>\n<div class=\"scroll\" tabindex=\"0\" role=\"region\" \

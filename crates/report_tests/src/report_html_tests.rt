@@ -50,7 +50,7 @@ fn hostile_record(rt: HostRuntime) -> Result<(), Fail> {
         text.contains(
             "<svg x=\"0e-3%\" width=\"100000e-3%\"><title>console 0: found</title>\
 <rect class=\"zone\" width=\"100%\" height=\"52\"/>\
-<svg class=\"strip\" y=\"28\" viewBox=\"0 0 4096 24\" preserveAspectRatio=\"none\">
+<svg class=\"strip\" y=\"28\" height=\"24\" viewBox=\"0 0 4096 24\" preserveAspectRatio=\"none\">
 <rect class=\"ok\" y=\"12\" height=\"12\" x=\"0\" width=\"12\"><title>header, clean</title></rect>
 <rect class=\"ok\" y=\"12\" height=\"12\" x=\"12\" width=\"128\"><title>block 0, clean</title></rect>
 <rect class=\"off\" y=\"20\" height=\"4\" x=\"140\" width=\"3956\"><title>blocks 1 to 31, not in use</title></rect>
@@ -138,6 +138,21 @@ fn drawn_blocks(rt: HostRuntime) -> Result<(), Fail> {
     ] {
         assert!(rt; text.contains(shown), "{shown}");
     }
+    Ok(())
+}
+
+// Neighbours that are empty share a row, if they are of one kind.
+#[test]
+fn empty_zones(rt: HostRuntime) -> Result<(), Fail> {
+    for row in [
+        "<tr><th scope=\"row\">dump 1 to 2</th><td>empty</td><td class=\"n\">1024</td><td class=\"n\">1024 each</td>\
+<td class=\"n\">0</td><td class=\"n\">0</td><td class=\"n\">0</td><td class=\"n\">0</td></tr>\n",
+        "<tr><th scope=\"row\">console 0</th><td>empty</td><td class=\"n\">3072</td><td class=\"n\">1024</td>\
+<td class=\"n\">0</td><td class=\"n\">0</td><td class=\"n\">0</td><td class=\"n\">0</td></tr>\n",
+    ] {
+        assert!(rt; shows(rt, [NAMED, NONE, NONE, NONE], row)?, "{row}");
+    }
+    assert!(rt; !shows(rt, [NAMED, NONE, NAMED, NONE], " each</td>")?);
     Ok(())
 }
 

@@ -1,5 +1,5 @@
 -- The header, the blocks and the parity, one after another
-use Rattle.std.proofs.Common.{◌≡◌, ◌∙◌, ap}
+use Rattle.std.proofs.Common.{◌≡◌, ◌∙◌, ◌++◌, ℕ, ap}
 use Rattle.zone_spec.specs.PartStates.{PartStates}
 use Rattle.report_html.specs.Pieces.{parts}
 use Rattle.report_html.specs.Pictures.{strip_opening}
@@ -15,5 +15,5 @@ returns c =
     (parts c.add_strip_opening.new.pieces.items) (parts c.add_header.new.pieces.items)
     (parts c.add_used.new.pieces.items) (parts c.add_unused.new.pieces.items) (parts c.add_parity.new.pieces.items)
     (parts c.add.new.pieces.items) (ap (λ (p : PartStates). p.header) c.states.view_is) blocks
-    c.in_ok-add_strip_opening.ensures c.in_ok-add_header.ensures c.in_ok-add_used.ensures
+    (c.in_ok-add_strip_opening.ensures ∙ ap (λ (n : ℕ). old ++ strip_opening n) c.from.ensures) c.in_ok-add_header.ensures c.in_ok-add_used.ensures
     c.in_ok-add_unused.ensures c.in_ok-add_parity.ensures c.in_ok-add.ensures

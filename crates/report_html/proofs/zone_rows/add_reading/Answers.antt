@@ -3,8 +3,8 @@ use Rattle.std.proofs.Common.{◌∙◌, ◌++◌, ◌∷◌, [], ℕ, List, ap,
 use Rattle.zone_spec.specs.Reading.{ZoneReading}
 use Rattle.report_html.specs.Pieces.{Part, Words, Count, parts}
 use Rattle.report_html.specs.declared.words.TheConstants.{CELL}
-use Rattle.report_html.specs.Pictures.{reading_cells}
-use Rattle.report_html.proofs.picture.add_reading.Goals as goal
+use Rattle.report_html.specs.ZoneRows.{reading_cells}
+use Rattle.report_html.proofs.zone_rows.add_reading.Goals as goal
 
 pub returns : goal.returns
 returns c =
