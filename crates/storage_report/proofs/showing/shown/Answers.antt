@@ -1,5 +1,5 @@
 -- The zones are those of the storage.
-use Rattle.std.proofs.Common.{◌∙◌, List, ℕ, subst}
+use Rattle.std.proofs.Common.{◌∙◌, List, [], ℕ, subst}
 use Rattle.std.specs.Prelude.{IfOk}
 use Rattle.std.specs.Global.{Vec}
 use Rattle.zone_spec.specs.declared.Zone.{Zone}
@@ -10,5 +10,5 @@ use Rattle.storage_report.proofs.showing.shown.Goals as goal
 pub returns : goal.returns
 returns c =
     subst (λ (zones : List Zone). IfOk c.shown_zones.result (λ (text : Vec ℕ). ShowsZones c.args.format c.args.path.now
-    (OfSizes c.args.held.now.storage.sizes) zones c.args.lines c.args.read.now.report text.items))
+    (OfSizes c.args.held.now.storage.sizes) zones c.args.lines [] c.args.read.now.report text.items))
     (c.deref.ensures.value ∙ c.requires.same) c.shown_zones.ensures
