@@ -17,7 +17,9 @@ fn words_of_the_layout(rt: HostRuntime) -> Result<(), Fail> {
     let line =
         b"BOOT_IMAGE=/vmlinuz ro ramoops.mem_address=0x8f000000 ramoops.mem_size=0x100000  ramoops.ecc=1 \
 ramoops.dump_oops=1 ramoops.mem_type ramoops.max_reason=2 quiet xramoops.ecc=2 ramoops.console_size=0x4000";
-    let read = KernelLine::read(rt.alloc(), line).unwrap();
+    let Ok(read) = KernelLine::read(rt.alloc(), line) else {
+        return Err(Fail::from("the line was read"));
+    };
     assert_eq!(rt;
         read.add_layout_words(rt.alloc(), Module::Ramoops, &mut words),
         Ok(())
