@@ -12,7 +12,7 @@ use crate::looking::look_at;
 use layout_spec::Candidate;
 use ramoops_layout::rows::parity;
 use std::alloc::{AllocError, Global};
-use zone_spec::{Kind, Zone, ZoneName};
+use zone_spec::{ByteOrder, Kind, Zone, ZoneName};
 
 // The first dump zone, if the dump zones have this size.
 fn first_zone(c: &Candidate, size: u64) -> Zone
@@ -38,6 +38,7 @@ fn first_zone(c: &Candidate, size: u64) -> Zone
         parity: parity as u32,
         sig: 0x43474244,
         block: 128,
+        byte_order: ByteOrder::Little,
     }
 }
 

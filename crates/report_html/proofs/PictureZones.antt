@@ -16,6 +16,7 @@ use Rattle.prz_read.proofs.Saves.{zip-at}
 use Rattle.report_html.specs.Pieces.{Part, Words}
 use Rattle.report_html.proofs.PartSums.{joined}
 use Rattle.report_html.specs.Pictures.{row_parts, header_parts, runs, run_parts, unused_parts, zone_parts}
+use Rattle.zone_spec.specs.declared.params.ByteOrder.TheVariants.{Little}
 
 -- ---- one zone
 
@@ -48,6 +49,7 @@ no_zone = record {
   parity = 0;
   sig = 0;
   block = 0;
+  byte_order = Little;
 }
 
 -- the reading beside a zone
