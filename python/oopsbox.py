@@ -28,7 +28,7 @@ __all__ = ["Error", "Record", "Report", "Ring", "Run", "Zone", "boot", "layout",
 
 DONE, FAULT, SHORT, ROOM, ARGUMENT, MEMORY, BAD, CLOSED, UNLAID, TREE = 0, 3, 4, 12, 13, 14, 15, 16, 17, 18
 
-Zone = namedtuple("Zone", "kind index at size cap blocks parity block sig")
+Zone = namedtuple("Zone", "kind index at size cap blocks parity block sig byte_order")
 Record = namedtuple("Record", "name time content")
 Run = namedtuple("Run", "status text image")
 Report = namedtuple("Report", "text hint")
@@ -45,7 +45,8 @@ class Error(Exception):
 
 
 class _Place(ctypes.Structure):
-    _fields_ = [(name, ctypes.c_uint32) for name in Zone._fields]
+    _fields_ = [("kind", ctypes.c_uint16), ("byte_order", ctypes.c_uint16)] + [
+        (name, ctypes.c_uint32) for name in Zone._fields[1:-1]]
 
 
 class _LayoutAnswer(ctypes.Structure):
@@ -65,7 +66,7 @@ class _ReportAnswer(ctypes.Structure):
 class _Params(ctypes.Structure):
     _fields_ = [(name, ctypes.c_uint64) for name in (
         "mem", "dump", "console", "ftrace", "pmsg", "ecc", "cpus", "block", "ecc_dump", "ecc_console", "ecc_ftrace",
-        "ecc_pmsg")] + [("ftrace_sig", ctypes.c_uint32), ("order", ctypes.c_uint32)]
+        "ecc_pmsg")] + [("ftrace_sig", ctypes.c_uint32), ("order", ctypes.c_uint16), ("byte_order", ctypes.c_uint16)]
 
 
 class _ZoneAnswer(ctypes.Structure):
@@ -335,7 +336,7 @@ def _zone_by_words(words, kind, index):
     zones, mem = _layout(words)
     for zone in zones:
         if (zone.kind, zone.index) == (kind, index):
-            return _Place(_KINDS.index(kind), *zone[1:]), mem
+            return _Place(_KINDS.index(kind), zone.byte_order, *zone[1:-1]), mem
     raise Error(ARGUMENT, "no zone %s %d" % (kind, index))
 
 
