@@ -148,6 +148,14 @@ fn causes_by_hand(rt: HostRuntime) {
             b"BUG: KASAN: a",
         ),
         (
+            b"BUG: KFENCE: a\nKernel panic - not syncing: KFENCE: panic_on_warn set ...\n",
+            b"BUG: KFENCE: a",
+        ),
+        (
+            b"BUG: KCSAN: a\nKernel panic - not syncing: KCSAN: panic_on_warn set ...\n",
+            b"BUG: KCSAN: a",
+        ),
+        (
             b"Insufficient stack space to handle exception!\nKernel panic - not syncing: kernel stack overflow\n",
             b"Insufficient stack space to handle exception!",
         ),

@@ -152,3 +152,31 @@ Call Trace:\n <TASK>\n ? __die_body+0x1a/0x60\n name+0x1/0x2\n"
         assert!(rt; is_named(text, telling, function));
     }
 }
+
+// The kernel's own ways to die are not to blame. All are from the sources.
+#[test]
+fn frames_by_which_a_kernel_dies(rt: HostRuntime) {
+    for (text, telling, function) in [
+        (
+            b"Kernel panic - not syncing: NMI: Not continuing\nCall Trace:\n <NMI>\n dump_stack_lvl+0x1/0x2\n\
+ panic+0x1/0x2\n nmi_panic.cold+0xc/0xc\n name+0x1/0x2\n"
+                .as_slice(),
+            b"Kernel panic - not syncing: NMI: Not continuing".as_slice(),
+            b"name+0x1/0x2".as_slice(),
+        ),
+        (
+            b"Kernel panic - not syncing: a\nCall Trace:\n panic+0x1/0x2\n check_panic_on_warn+0x1/0x2\n\
+ __stack_chk_fail+0x1/0x2\n name+0x1/0x2\n",
+            b"Kernel panic - not syncing: a",
+            b"name+0x1/0x2",
+        ),
+        (
+            b"Kernel panic - not syncing: a\nCall trace:\n panic+0x1/0x2\n oops_end+0x1/0x2\n die+0x1/0x2\n\
+ page_fault_oops+0x1/0x2\n name+0x1/0x2\n",
+            b"Kernel panic - not syncing: a",
+            b"name+0x1/0x2",
+        ),
+    ] {
+        assert!(rt; is_named(text, telling, function));
+    }
+}

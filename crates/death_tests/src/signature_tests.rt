@@ -82,6 +82,15 @@ RIP: 0010:f.llvm.123+0x5/0x20\n",
             b"BUG: KASAN: slab-use-after-free in f+0x10/0x20\nRead of size 8 at addr ffff888004f3a000 by task sh/123\n",
             b"KASAN: slab-use-after-free in f",
         ),
+        // source
+        (
+            b"BUG: KFENCE: use-after-free read in f+0xb3/0x143\nUse-after-free read at 0x0 (in kfence-#24):\n",
+            b"KFENCE: use-after-free read in f",
+        ),
+        (
+            b"BUG: KCSAN: data-race in f / g\nwrite to 0xffff8880 of 4 bytes by task 1 on cpu 0:\n f+0x1/0x2\n h+0x1/0x2\n",
+            b"KCSAN: data-race in f",
+        ),
         // the line names no function, and the report skips those that tell
         (
             b"UBSAN: array-index-out-of-bounds in drivers/x.c:12:3\nindex 9 is out of range\nCall Trace:\n\
