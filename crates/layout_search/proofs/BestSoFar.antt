@@ -406,6 +406,10 @@ unfolding is_of_family
 same_in known image c h = (and_parts _ (is_same_order c.byte_order (byte_order_for known image))
     (and_parts _ (has_layout c) h).0).1
 
+order_back : (o : ZoneOrder) → order_of (order_number o) ≡ o
+order_back FtracePmsg = refl
+order_back PmsgFtrace = refl
+
 -- the candidates of the walk have the order of bytes of the family
 pub from_start : (known : Known) (image : List ℕ) (aim : Aim) (s : Progress) (c : Candidate) (b : ByteOrder) (t : ℕ)
     → is_of_family known image c ≡ true → b ≡ byte_order_for known image
@@ -545,10 +549,6 @@ number_back : (n : ℕ) → n ≤ 1 → order_number (order_of n) ≡ n
 number_back zero h = refl
 number_back (suc zero) h = refl
 number_back (suc (suc n)) h = absurd (omega (arith, h))
-
-order_back : (o : ZoneOrder) → order_of (order_number o) ≡ o
-order_back FtracePmsg = refl
-order_back PmsgFtrace = refl
 
 -- a number of the list is that of its order
 order_listed : (known : Known) (c : Candidate) (n : ℕ) → is_one_of n (orders_for known c) ≡ true
