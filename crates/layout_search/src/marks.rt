@@ -76,8 +76,7 @@ pub fn is_tagged_mark(image: &[u8], at: usize) -> bool
     requires { at < 2 ^ 63 }
     ensures { result ≡ is_tagged_mark_at image.now at }
 {
-    is_tagged_mark_in(ByteOrder::Little, image, at)
-        || is_tagged_mark_in(ByteOrder::Big, image, at)
+    is_tagged_mark_in(ByteOrder::Little, image, at) || is_tagged_mark_in(ByteOrder::Big, image, at)
 }
 
 /// Whether a zone of this kind seems to begin here.

@@ -39,9 +39,10 @@ walk-requires t c =
     c.requires.aim in
     let ordered : c.having-candidate.result.byte_order ≡ byte_order_for known c.args.image.now =
     ap (λ (d : Candidate). d.byte_order) c.having-candidate.ensures
-    ∙ having_order c.in-Some.level c.args.c.now (get_or c.values-list.result.now c.loop-k.k 0) ∙ c.requires.ordered in
-    (omega (arith, c.decreases, fewer),
-      (near, (c.requires.lists, (listed, (passed, (ordered, (sound, c.in_ok-may.ensures.seen)))))))
+    ∙ having_order c.in-Some.level c.args.c.now (get_or c.values-list.result.now c.loop-k.k 0) ∙ c.requires.ordered in (
+      omega (arith, c.decreases, fewer),
+      (near, (c.requires.lists, (listed, (passed, (ordered, (sound, c.in_ok-may.ensures.seen)))))),
+    )
 
 pub returns-in_default-clause-settled : goal.returns-in_default-clause-settled
 returns-in_default-clause-settled t c =
