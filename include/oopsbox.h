@@ -437,7 +437,7 @@ struct oopsbox_report_answer {
  * On all of these the rest of text is as it was.
  *
  * OOPSBOX_FAULT: *answer tells the fault (a word's: 1 unknown key, 2 twice, 3 no number; else word is 0: the layout's,
- * or 101 to 106, where block_size, ecc_dump, ecc_console, ecc_ftrace, ecc_pmsg or byte_order is given without mem_size; or 201 to
+ * or 101 to 105, where block_size, ecc_dump, ecc_console, ecc_ftrace or ecc_pmsg is given without mem_size; or 201 to
  * 207: the image is no storage of the sizes that words give).
  * OOPSBOX_SHORT: the image has fewer bytes than answer->needed.
  * OOPSBOX_TREE: answer->fault is 1 to 13: the tree is broken; 14: it has no ramoops node; 15: it has several; 16: a word

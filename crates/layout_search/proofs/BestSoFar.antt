@@ -11,7 +11,10 @@ use Rattle.layout_spec.specs.declared.Known.{Known}
 use Rattle.layout_spec.specs.Laid.{params_of, zones_of, has_layout}
 use Rattle.layout_spec.specs.Order.{is_before, faults}
 use Rattle.layout_spec.specs.Family.{is_of_family, is_chosen, is_one_of, tags_for, known_or, parities, cpus_for, sizes}
-use Rattle.layout_spec.specs.Family.{memories, is_shape, is_told_once, order_number, orders_for}
+use Rattle.layout_spec.specs.Family.{memories, is_shape, is_told_once, order_number, orders_for, byte_order_for}
+use Rattle.zone_spec.specs.Orders.{is_same_order}
+use Rattle.zone_spec.specs.declared.params.ByteOrder.{ByteOrder}
+use Rattle.zone_spec.specs.declared.params.ByteOrder.TheVariants.{Little, Big}
 use Rattle.zone_spec.specs.declared.params.Order.{Order as ZoneOrder}
 use Rattle.zone_spec.specs.declared.params.Order.TheVariants.{FtracePmsg, PmsgFtrace}
 use Rattle.layout_search.specs.Levels.{Over, IsListed, after, levels_from, next, values, having, order_of}
@@ -83,13 +86,27 @@ no_layout known image aim c s e = record {
   settled = λ family few other. absurd (true≢false (sym (family_layout known image c family) ∙ e));
 }
 
+same_order : (a b : ByteOrder) → a ≡ b → is_same_order a b ≡ true
+same_order Little b e = ap (is_same_order Little) (sym e)
+same_order Big b e = ap (is_same_order Big) (sym e)
+
+is_order : (a b : ByteOrder) → is_same_order a b ≡ true → a ≡ b
+is_order Little Little e = refl
+is_order Little Big e = absurd (true≢false (sym e))
+is_order Big Little e = absurd (true≢false (sym e))
+is_order Big Big e = refl
+
 pub family_of : (known : Known) (image : List ℕ) (c : Candidate) (t : ℕ) → is_chosen known (length image) c ≡ true
+    → c.byte_order ≡ byte_order_for known image
     → is_one_of t (tags_for known image c) ≡ true → has_layout (record c { tag = t }) ≡ true
     → is_of_family known image (record c { tag = t }) ≡ true
 unfolding is_of_family is_chosen
-family_of known image c t chosen tag has =
-    ap (λ b. (b && is_one_of t (tags_for known image c)) && has_layout (record c { tag = t })) chosen
-    ∙ ap (λ b. b && has_layout (record c { tag = t })) tag ∙ has
+family_of known image c t chosen ordered tag has =
+    let same = is_same_order c.byte_order (byte_order_for known image) in
+    ap (λ b. ((b && is_one_of t (tags_for known image c)) && same) && has_layout (record c { tag = t })) chosen
+    ∙ ap (λ b. (b && same) && has_layout (record c { tag = t })) tag
+    ∙ ap (λ b. b && has_layout (record c { tag = t })) (same_order c.byte_order (byte_order_for known image) ordered)
+    ∙ has
 
 pub tags_done : (known : Known) (image : List ℕ) (aim : Aim) (c : Candidate) (s : Progress) (list : List ℕ)
     → list ≡ tags_for known image c
@@ -346,7 +363,9 @@ split_word known len Q level levels r c d e h walked =
 chosen_in : (known : Known) (image : List ℕ) (c : Candidate) → is_of_family known image c ≡ true
     → is_chosen known (length image) c ≡ true
 unfolding is_of_family
-chosen_in known image c h = (and_parts (is_chosen known (length image) c) _ (and_parts _ (has_layout c) h).0).0
+chosen_in known image c h =
+    (and_parts (is_chosen known (length image) c) _ (and_parts _ (is_same_order c.byte_order (byte_order_for known image))
+    (and_parts _ (has_layout c) h).0).0).0
 
 -- (((((shape && told) && within) && order) && cpus) && parity)
 pub record AreParts (known : Known) (len : ℕ) (c : Candidate) : Type 0 where
@@ -379,7 +398,39 @@ pub tag_in : (known : Known) (image : List ℕ) (c : Candidate) → is_of_family
     → is_one_of c.tag (tags_for known image c) ≡ true
 unfolding is_of_family
 tag_in known image c h = (and_parts (is_chosen known (length image) c) (is_one_of c.tag (tags_for known image c))
+    (and_parts _ (is_same_order c.byte_order (byte_order_for known image)) (and_parts _ (has_layout c) h).0).0).1
+
+pub same_in : (known : Known) (image : List ℕ) (c : Candidate) → is_of_family known image c ≡ true
+    → is_same_order c.byte_order (byte_order_for known image) ≡ true
+unfolding is_of_family
+same_in known image c h = (and_parts _ (is_same_order c.byte_order (byte_order_for known image))
     (and_parts _ (has_layout c) h).0).1
+
+order_back : (o : ZoneOrder) → order_of (order_number o) ≡ o
+order_back FtracePmsg = refl
+order_back PmsgFtrace = refl
+
+-- the candidates of the walk have the order of bytes of the family
+pub from_start : (known : Known) (image : List ℕ) (aim : Aim) (s : Progress) (c : Candidate) (b : ByteOrder) (t : ℕ)
+    → is_of_family known image c ≡ true → b ≡ byte_order_for known image
+    → TagsSettled known image aim s (record c { order = order_of (order_number c.order); tag = t; byte_order = b })
+    → TagsSettled known image aim s (record c { tag = t })
+from_start known image aim s c b t family start h =
+    let same : b ≡ c.byte_order = start ∙ sym (is_order c.byte_order (byte_order_for known image) (same_in known image c family)) in
+    subst (λ (b : ByteOrder). TagsSettled known image aim s (record c { tag = t; byte_order = b })) same
+    (subst (λ (o : ZoneOrder). TagsSettled known image aim s (record c { order = o; tag = t; byte_order = b }))
+    (order_back c.order) h)
+
+-- a word changes no order of bytes
+pub having_order : (level : Level) (c : Candidate) (n : ℕ) → (having level c n).byte_order ≡ c.byte_order
+having_order Mem c n = refl
+having_order Dump c n = refl
+having_order Console c n = refl
+having_order Ftrace c n = refl
+having_order Pmsg c n = refl
+having_order Order c n = refl
+having_order Cpus c n = refl
+having_order Parity c n = refl
 
 -- whatever the order, the processors, the parity and the tag
 strange : (known : Known) (image : List ℕ) (aim : Aim) (c : Candidate) (s : Progress)
@@ -499,10 +550,6 @@ number_back zero h = refl
 number_back (suc zero) h = refl
 number_back (suc (suc n)) h = absurd (omega (arith, h))
 
-order_back : (o : ZoneOrder) → order_of (order_number o) ≡ o
-order_back FtracePmsg = refl
-order_back PmsgFtrace = refl
-
 -- a number of the list is that of its order
 order_listed : (known : Known) (c : Candidate) (n : ℕ) → is_one_of n (orders_for known c) ≡ true
     → is_one_of (order_number (order_of n)) (orders_for known c) ≡ true
@@ -517,9 +564,10 @@ start_listed known len start = λ m a d b o c f e p g u j n h r i.
     both _ _ (both _ _ (both _ _ (both _ _ (both _ _ (both _ _ (both _ _ a b) c) e) g) order) h) i
 
 pub all_settled : (known : Known) (image : List ℕ) (aim : Aim) (start : Candidate) (s : Progress)
+    → start.byte_order ≡ byte_order_for known image
     → SettledOver known image aim (levels_from (Some Mem)) start s → (c : Candidate) → IsSettled known image aim c s
 unfolding Over
-all_settled known image aim start s h c = record {
+all_settled known image aim start s ordered h c = record {
   settled = λ family few other.
       let len = length image in
       let parts = parts_in known image c family in
@@ -531,16 +579,16 @@ all_settled known image aim start s h c = record {
       let sized = h c.mem d.0 c.dump d.1 c.console o.1 c.ftrace f.1 c.pmsg p.1 (order_number c.order) parts.order
       c.cpus parts.cpus c.parity parts.parity in
       let tags : TagsSettled known image aim s (record c { tag = start.tag }) =
-      subst (λ (o : ZoneOrder). TagsSettled known image aim s (record c { order = o; tag = start.tag }))
-      (order_back c.order) sized in
+      from_start known image aim s c start.byte_order start.tag family ordered sized in
       (tags.all c.tag (tag_in known image c family)).settled family few other;
 }
 
 pub walked_settled : (known : Known) (image : List ℕ) (aim : Aim) (start : Candidate) (s : Progress) (r : Reached)
+    → start.byte_order ≡ byte_order_for known image
     → SettledBefore known image aim all_levels start s r → (c : Candidate)
     → is_walked known (length image) all_levels r c ≡ true → IsSettled known image aim c s
 unfolding Over is_walked
-walked_settled known image aim start s r h c walked = record {
+walked_settled known image aim start s r ordered h c walked = record {
   settled = λ family few other.
       let len = length image in
       let Q : Candidate → Type 0 = TagsSettled known image aim s in
@@ -559,7 +607,8 @@ walked_settled known image aim start s r h c walked = record {
       let u = order_number c.order in
       let c6 : Candidate = record c5 { order = order_of u } in
       let c7 : Candidate = record c6 { cpus = c.cpus } in
-      let found : TagsSettled known image aim s (record c { order = order_of u; tag = start.tag }) = elim (split_word known len Q Mem
+      let found : TagsSettled known image aim s
+      (record c { order = order_of u; tag = start.tag; byte_order = start.byte_order }) = elim (split_word known len Q Mem
       (after Mem) r start c refl h walked) [
         | inl k ↦ k c.dump d.1 c.console o.1 c.ftrace f.1 c.pmsg p.1 u parts.order c.cpus parts.cpus c.parity parts.parity
         | inr k ↦ elim (split_word known len Q Dump (after Dump) r c1 c refl k.0 k.1) [
@@ -586,19 +635,20 @@ walked_settled known image aim start s r h c walked = record {
         ]
       ] in
       let tags : TagsSettled known image aim s (record c { tag = start.tag }) =
-      subst (λ (o : ZoneOrder). TagsSettled known image aim s (record c { order = o; tag = start.tag }))
-      (order_back c.order) found in
+      from_start known image aim s c start.byte_order start.tag family ordered found in
       (tags.all c.tag t).settled family few other;
 }
 
 pub part_settled : (known : Known) (image : List ℕ) (aim : Aim) (start : Candidate) (s : Progress)
     (stop : Option Reached)
+    → start.byte_order ≡ byte_order_for known image
     → MatchOption stop (SettledOver known image aim all_levels start s)
     (SettledBefore known image aim all_levels start s)
     → (c : Candidate) → is_walked known (length image) all_levels (unwrap_or stop nowhere) c ≡ true
     → IsSettled known image aim c s
-part_settled known image aim start s None h c walked = all_settled known image aim start s h c
-part_settled known image aim start s (Some r) h c walked = walked_settled known image aim start s r h c walked
+part_settled known image aim start s None ordered h c walked = all_settled known image aim start s ordered h c
+part_settled known image aim start s (Some r) ordered h c walked =
+    walked_settled known image aim start s r ordered h c walked
 
 pub stop_here : (known : Known) (image : List ℕ) (aim : Aim) (a : Option Level) (level : Level) (c : Candidate)
     (s : Progress) (r t : Reached) (list : List ℕ) (k : ℕ) → a ≡ Some level → t ≡ counted level r k

@@ -6,15 +6,17 @@ use Rattle.std.proofs.lemmas.Bool.{eqb-true, eqb-false}
 use Rattle.std.proofs.lemmas.Option.{slice_get_within, get_or_from_slice_get, slice_get-get_or}
 use Rattle.std.proofs.lemmas.List.{get_or-replicate, length-replicate, get_or-set_other, length-set}
 use Rattle.std.proofs.lemmas.Grind.{get_or-set_at}
+use Rattle.layout_spec.specs.Marks.{byte_order_in}
 use Rattle.layout_search.specs.Looks.{IsLook}
 use Rattle.layout_search.specs.Sights.{AreSeen}
 use Rattle.layout_search.specs.declared.sights.Sight.{Sight}
 use Rattle.layout_search.specs.declared.sights.Sights.{Sights}
 
 -- where no slot holds a zone
-pub none_seen : (image : List ℕ) (n : ℕ) (sights : Sights) → sights.slots.items ≡ replicate n None
-    → AreSeen image sights
-none_seen image n sights e = record {
+pub none_seen : (image : List ℕ) (n : ℕ) (sights : Sights) → sights.byte_order ≡ byte_order_in image
+    → sights.slots.items ≡ replicate n None → AreSeen image sights
+none_seen image n sights o e = record {
+  byte_order_is = o;
   all = λ i sight h.
       let none : Option Sight = None in
       let xs : List (Option Sight) = replicate n none in
@@ -27,9 +29,12 @@ none_seen image n sights e = record {
 
 -- one slot holds another zone
 pub one_more_seen : (image : List ℕ) (old new : Sights) (place : ℕ) (sight : Sight) → place < length old.slots.items
-    → new.slots.items ≡ set old.slots.items place (Some sight) → IsLook image sight.zone sight.look → AreSeen image old
-    → AreSeen image new
-one_more_seen image old new place sight inside e look seen = record { all = λ i s h. step i s h (i == place) refl }
+    → new.slots.items ≡ set old.slots.items place (Some sight) → new.byte_order ≡ old.byte_order
+    → IsLook image sight.zone sight.look → AreSeen image old → AreSeen image new
+one_more_seen image old new place sight inside e o look seen = record {
+  byte_order_is = o ∙ seen.byte_order_is;
+  all = λ i s h. step i s h (i == place) refl;
+}
   where
     by_place : (i : ℕ) (s : Sight) (b : Bool) → (i == place) ≡ b
         → get_or (set old.slots.items place (Some sight)) i None ≡ Some s → i < length old.slots.items

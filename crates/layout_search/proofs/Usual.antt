@@ -8,7 +8,7 @@ use Rattle.layout_spec.specs.Family.{is_of_family, is_chosen, is_one_of, known_o
 use Rattle.layout_search.specs.Answers.{usual}
 use Rattle.layout_search.specs.Tried.{IsKept}
 use Rattle.layout_search.specs.declared.progress.Best.{Best}
-use Rattle.layout_search.proofs.BestSoFar.{parts_in, tag_in, both, family_layout}
+use Rattle.layout_search.proofs.BestSoFar.{parts_in, tag_in, same_in, both, family_layout}
 
 or_none : (b : Bool) → (b || false) ≡ true → b ≡ true
 or_none true e = refl
@@ -52,7 +52,8 @@ usual_family known image d p two h =
     let parity = usual_parity known.parity p d.parity two parts.parity in
     let chosen : is_chosen known (length image) d ≡ true =
     both _ _ (both _ _ (both _ _ (both _ _ (both _ _ parts.shape parts.told) parts.within) parts.order) cpus) parity in
-    both _ _ (both _ _ chosen (tag_in (usual known p) image d h)) (family_layout (usual known p) image d h)
+    both _ _ (both _ _ (both _ _ chosen (tag_in (usual known p) image d h)) (same_in (usual known p) image d h))
+    (family_layout (usual known p) image d h)
 
 pub usual_kept : (known : Known) (image : List ℕ) (p : ℕ) (b : Best) → is_one_of p (0 ∷ 16 ∷ []) ≡ true
     → IsKept (usual known p) image None b → IsKept known image None b

@@ -396,7 +396,7 @@ pub fn search(alloc: Global, image: &[u8], known: &Known) -> Result<Option<Found
 {
     let lists = make_lists(alloc, known, image.len() as u64)?;
     let marks = count_marks(image);
-    let mut sights = no_sights(alloc, image.len())?;
+    let mut sights = no_sights(alloc, image)?;
     let Some(some) = find_some(alloc, image, known, &lists, marks, &mut sights)? else {
         return Ok(None);
     };

@@ -4,9 +4,9 @@ ghost use Rattle.layout_search.specs.Looks.{IsInside, IsLook};
 ghost use Rattle.layout_search.specs.Sights.{AreSeen};
 
 use crate::looking::{Look, look_at};
-use crate::marks::seems_to_begin;
+use crate::marks::{first_order, seems_to_begin};
 use std::alloc::{AllocError, Global};
-use zone_spec::Zone;
+use zone_spec::{ByteOrder, Zone};
 
 /// A zone, and what was seen of it.
 #[derive(Clone, Copy)]
@@ -15,9 +15,11 @@ pub struct Sight {
     pub look: Look,
 }
 
-/// What was seen of zones with parity. A zone has one slot, which holds the last zone that was seen of those that share it.
+/// What was seen of an image: the order of bytes of its first mark, and its zones with parity. A zone has one slot, which
+/// holds the last zone that was seen of those that share it.
 #[derive(Drop)]
 pub struct Sights {
+    pub byte_order: ByteOrder,
     pub slots: Vec<Option<Sight>>,
 }
 
@@ -26,12 +28,15 @@ const MOST_SLOTS: usize = 1 << 17;
 // Decoding a header costs as much as looking at so many places.
 const DECODING: u64 = 8192;
 
-/// Nothing was seen yet of an image of this length.
-pub fn no_sights(alloc: Global, len: usize) -> Result<Sights, AllocError>
-    ensures { IfOk result (λ sights. (image : List ℕ) → AreSeen image sights) }
+/// No zone was seen yet of this image.
+pub fn no_sights(alloc: Global, image: &[u8]) -> Result<Sights, AllocError>
+    ensures { IfOk result (AreSeen image.now) }
 {
-    let slots = Vec::from_elem(alloc, None, len.saturating_mul(4).min(MOST_SLOTS))?;
-    Ok(Sights { slots })
+    let slots = Vec::from_elem(alloc, None, image.len().saturating_mul(4).min(MOST_SLOTS))?;
+    Ok(Sights {
+        byte_order: first_order(image),
+        slots,
+    })
 }
 
 // The slot of a zone, of at least one.

@@ -1,6 +1,7 @@
 // The walk: all layouts of the family, one word after another.
 ghost use Rattle.std.specs.Prelude.{◌≡◌, ◌<◌, true, length, None, IfOk, OnOk, MatchOption};
 ghost use Rattle.layout_spec.specs.declared.Candidate.{Candidate as CandidateValue};
+ghost use Rattle.layout_spec.specs.Family.{byte_order_for};
 ghost use Rattle.layout_search.specs.Levels.{Over, IsListed, levels_from};
 ghost use Rattle.layout_search.specs.Placed.{IsPassed, AreLists};
 ghost use Rattle.layout_search.specs.Sights.{AreSeen};
@@ -49,6 +50,7 @@ fn walk(
     requires listed { Over known.now (length image.now) (levels_from level) (IsListed known.now (length image.now))
         c.now }
     requires passed { IsPassed level known.now (length image.now) c.now }
+    requires ordered { c.now.byte_order ≡ byte_order_for known.now image.now }
     requires sound { IsSound known.now image.now aim.now.besides state.old.best }
     requires seen { AreSeen image.now sights.old }
     ensures seen { OnOk result (AreSeen image.now sights.new) }
@@ -136,6 +138,7 @@ pub fn sweep(
         cpus: 1,
         tag: 0,
         order: Order::FtracePmsg,
+        byte_order: known.byte_order.unwrap_or(sights.byte_order),
     };
     let stop = walk(
         alloc,

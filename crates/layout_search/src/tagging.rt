@@ -3,7 +3,7 @@ ghost use Rattle.std.specs.Prelude.{◌≡◌, ◌+◌, ◌-◌, ◌<◌, ◌≤
 ghost use Rattle.std.specs.Prelude.{slice_get, slice_index, OnOk, IfOk, MatchOption};
 ghost use Rattle.zone_spec.specs.declared.Zone.{Zone as ZoneValue};
 ghost use Rattle.layout_spec.specs.Laid.{has_layout};
-ghost use Rattle.layout_spec.specs.Family.{is_chosen, is_tagged, tag_read, tags_for};
+ghost use Rattle.layout_spec.specs.Family.{is_chosen, is_tagged, tag_read, tags_for, byte_order_for};
 ghost use Rattle.layout_search.specs.Looks.{IsInside};
 ghost use Rattle.layout_search.specs.Sights.{AreSeen};
 ghost use Rattle.layout_search.specs.Tried.{IsAim, IsSound, Advances, TagsSettled};
@@ -83,6 +83,7 @@ pub fn try_tags(
     requires seen { AreSeen image.now sights.old }
     requires within { c.now.mem ≤ length image.now }
     requires chosen { is_chosen known.now (length image.now) c.now ≡ true }
+    requires ordered { c.now.byte_order ≡ byte_order_for known.now image.now }
     requires sound { IsSound known.now image.now aim.now.besides state.old.best }
     ensures seen { OnOk result (AreSeen image.now sights.new) }
     ensures advances { OnOk result (Advances state.old state.new) }

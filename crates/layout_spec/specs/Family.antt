@@ -1,17 +1,19 @@
 -- The layouts that are looked through
 use Rattle.std.specs.Prelude.{ℕ, ◌-◌, Bool, true, false, ◌&&◌, ◌||◌, if◌then◌else◌, nat_lt, nat_le, ◌==◌, List, [], ◌∷◌}
-use Rattle.std.specs.Prelude.{map, filter, length, bit_xor, is_some, Option, None, Some, option_map}
+use Rattle.std.specs.Prelude.{map, filter, length, bit_xor, is_some, Option, None, Some, option_map, unwrap_or}
 use Rattle.std.specs.List.{list_any, range_with_len}
 use Rattle.zone_spec.specs.declared.Kind.{Kind}
 use Rattle.zone_spec.specs.declared.Kind.TheVariants.{Ftrace}
 use Rattle.zone_spec.specs.declared.Zone.{Zone}
+use Rattle.zone_spec.specs.declared.params.ByteOrder.{ByteOrder}
 use Rattle.zone_spec.specs.declared.params.Order.{Order}
 use Rattle.zone_spec.specs.declared.params.Order.TheVariants.{FtracePmsg, PmsgFtrace}
 use Rattle.zone_spec.specs.Numbers.{plain_sig}
+use Rattle.zone_spec.specs.Orders.{is_same_order}
 use Rattle.layout_spec.specs.declared.Candidate.{Candidate}
 use Rattle.layout_spec.specs.declared.Known.{Known}
 use Rattle.layout_spec.specs.Laid.{zones_of, has_layout, memory_for_dumps}
-use Rattle.layout_spec.specs.Marks.{is_readable, zone_words}
+use Rattle.layout_spec.specs.Marks.{is_readable, zone_words, byte_order_in}
 
 -- what is known is kept
 abbrev pub known_or : Option ℕ → List ℕ → List ℕ
@@ -78,6 +80,10 @@ tags_for known image c =
     else known_or known.tag
     (0x20000 ∷ map (tag_read image) (filter (is_tagged image) (zones_of (record c { tag = 0 }))))
 
+-- the order of bytes: the one that is known, or else the one that the image shows
+abbrev pub byte_order_for : Known → List ℕ → ByteOrder
+byte_order_for known image = unwrap_or known.byte_order (byte_order_in image)
+
 -- nothing is said twice: without dump zones the memory makes no difference, and dump zones need memory
 abbrev pub is_told_once : Known → ℕ → Candidate → Bool
 is_told_once known len c =
@@ -90,7 +96,7 @@ is_shape known len c =
     && is_one_of c.console (known_or known.console (sizes len))
     && is_one_of c.ftrace (known_or known.ftrace (sizes len)) && is_one_of c.pmsg (known_or known.pmsg (sizes len))
 
--- all but the tag and the layout
+-- all but the tag, the order of bytes and the layout
 unfoldable pub is_chosen : Known → ℕ → Candidate → Bool
 is_chosen known len c =
     is_shape known len c && is_told_once known len c && nat_le c.mem len
@@ -100,4 +106,5 @@ is_chosen known len c =
 -- a layout of the family: it agrees with what is known, and lies within the file
 unfoldable pub is_of_family : Known → List ℕ → Candidate → Bool
 is_of_family known image c =
-    is_chosen known (length image) c && is_one_of c.tag (tags_for known image c) && has_layout c
+    is_chosen known (length image) c && is_one_of c.tag (tags_for known image c)
+    && is_same_order c.byte_order (byte_order_for known image) && has_layout c

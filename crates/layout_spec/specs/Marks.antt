@@ -1,9 +1,11 @@
 -- Where a header seems to stand, and whether a zone's header reads as its own
 use Rattle.std.specs.Prelude.{ℕ, ◌+◌, ◌*◌, ◌-◌, ◌/◌, Bool, true, false, ◌&&◌, ◌||◌, not, if◌then◌else◌, nat_le, nat_lt}
-use Rattle.std.specs.Prelude.{◌==◌, List, map, count_by, length, min, slice_index}
+use Rattle.std.specs.Prelude.{◌==◌, List, [], ◌∷◌, map, count_by, length, min, slice_index}
 use Rattle.std.specs.List.{range_with_len}
 use Rattle.zone_spec.specs.declared.Kind.{Kind}
 use Rattle.zone_spec.specs.declared.Kind.TheVariants.{Dump, Ftrace}
+use Rattle.zone_spec.specs.declared.params.ByteOrder.{ByteOrder}
+use Rattle.zone_spec.specs.declared.params.ByteOrder.TheVariants.{Little, Big}
 use Rattle.zone_spec.specs.declared.State.{State}
 use Rattle.zone_spec.specs.declared.State.TheVariants.{Empty, Found}
 use Rattle.zone_spec.specs.declared.Zone.{Zone}
@@ -18,34 +20,61 @@ use Rattle.zone_spec.specs.PartStates.{zone_bytes}
 abbrev pub flag : Bool → ℕ
 flag b = if b then 1 else 0
 
+-- the byte of weight 256^i of the word that stands here
+abbrev pub word_byte : ByteOrder → List ℕ → ℕ → ℕ → ℕ
+word_byte Little image at i = slice_index image (at + i)
+word_byte Big image at i = slice_index image (at + (3 - i))
+
 -- the highest byte of start or of size is 0, as in every zone of at most 16 MiB
-abbrev pub has_zero : List ℕ → ℕ → Bool
-has_zero image at = (slice_index image (at + 7) == 0) || (slice_index image (at + 11) == 0)
+abbrev pub has_zero : ByteOrder → List ℕ → ℕ → Bool
+has_zero order image at = (word_byte order image (at + 4) 3 == 0) || (word_byte order image (at + 8) 3 == 0)
 
--- how many of the four bytes `DBGC` stand here
-abbrev pub signature_bytes : List ℕ → ℕ → ℕ
-signature_bytes image at =
-    flag (slice_index image at == 68) + flag (slice_index image (at + 1) == 66)
-    + flag (slice_index image (at + 2) == 71) + flag (slice_index image (at + 3) == 67)
+-- how many of the signature's four bytes stand here: `DBGC` of a little-endian machine, and `CGBD` of a big-endian one
+abbrev pub signature_bytes : ByteOrder → List ℕ → ℕ → ℕ
+signature_bytes order image at =
+    flag (word_byte order image at 0 == 68) + flag (word_byte order image at 1 == 66)
+    + flag (word_byte order image at 2 == 71) + flag (word_byte order image at 3 == 67)
 
--- a place where a header seems to stand: two bytes of the signature at least, and a zero. So text is no mark, and a
--- damaged signature is one
+-- a place where a header of this order of bytes seems to stand: two bytes of the signature at least, and a zero. So text
+-- is no mark, and a damaged signature is one
+unfoldable pub is_mark_in : ByteOrder → List ℕ → ℕ → Bool
+is_mark_in order image at = nat_le 2 (signature_bytes order image at) && has_zero order image at
+
+-- the same of either order
 unfoldable pub is_mark : List ℕ → ℕ → Bool
-is_mark image at = nat_le 2 (signature_bytes image at) && has_zero image at
+is_mark image at = is_mark_in Little image at || is_mark_in Big image at
 
--- the same of an ftrace zone, whose tag is in the signature: its fourth byte is `C`, and its third is not that of a tag
+-- the same of an ftrace zone, whose tag is in the signature: its highest byte is `C`, and the next is not that of a tag
 -- below 0x20000
+unfoldable pub is_tagged_mark_in : ByteOrder → List ℕ → ℕ → Bool
+is_tagged_mark_in order image at =
+    (word_byte order image at 3 == 67) && not (word_byte order image at 2 / 2 == 35) && has_zero order image at
+
 unfoldable pub is_tagged_mark : List ℕ → ℕ → Bool
-is_tagged_mark image at =
-    (slice_index image (at + 3) == 67) && not (slice_index image (at + 2) / 2 == 35) && has_zero image at
+is_tagged_mark image at = is_tagged_mark_in Little image at || is_tagged_mark_in Big image at
 
 abbrev pub seems_to_begin : Kind → List ℕ → ℕ → Bool
 seems_to_begin Ftrace image at = is_tagged_mark image at
 seems_to_begin other image at = is_mark image at
 
+-- the halves of the even places at which a whole header can stand
+abbrev pub halves : List ℕ → List ℕ
+halves image = range_with_len 0 ((length image - 10) / 2)
+
 -- how many marks the image has, at even places with a whole header behind them
 unfoldable pub marks : List ℕ → ℕ
-marks image = count_by (λ i. is_mark image (2 * i)) (range_with_len 0 ((length image - 10) / 2))
+marks image = count_by (λ i. is_mark image (2 * i)) (halves image)
+
+-- the order of bytes of the first of these places that is a mark, and little-endian where none is
+unfoldable pub first_order : List ℕ → List ℕ → ByteOrder
+first_order image [] = Little
+first_order image (i ∷ rest) =
+    if is_mark_in Little image (2 * i) then Little
+    else if is_mark_in Big image (2 * i) then Big else first_order image rest
+
+-- the order of bytes that the image shows, by its first mark: all zones of a region are written by one machine
+unfoldable pub byte_order_in : List ℕ → ByteOrder
+byte_order_in image = first_order image (halves image)
 
 -- the reading of a zone's header, and its words
 unfoldable pub header_of : List ℕ → Zone → PartReading

@@ -2,12 +2,12 @@
 //! layout comes first, and when it is taken.
 #![tactic(auto)]
 
-use zone_spec::Order;
+use zone_spec::{ByteOrder, Order};
 
 /// A layout that is tried. Sizes are in bytes: `mem` of the region, `dump` as wanted for a dump zone, `console`,
 /// `ftrace` (of all ftrace zones together) and `pmsg` of the other zones. `parity` is the parity bytes of each part,
-/// the same for all kinds; `cpus` the number of ftrace zones, and `tag` theirs; `order` that of ftrace and pmsg zones. A
-/// block has 128 data bytes.
+/// the same for all kinds; `cpus` the number of ftrace zones, and `tag` theirs; `order` that of ftrace and pmsg zones,
+/// and `byte_order` that of a word's bytes. A block has 128 data bytes.
 #[derive(Clone, Copy, Debug, PartialEq, Eq)]
 pub struct Candidate {
     pub mem: u64,
@@ -19,6 +19,7 @@ pub struct Candidate {
     pub cpus: u64,
     pub tag: u32,
     pub order: Order,
+    pub byte_order: ByteOrder,
 }
 
 /// What of a layout is known: `None` is looked for, the rest is kept. Units as in [`Candidate`].
@@ -33,6 +34,7 @@ pub struct Known {
     pub cpus: Option<u64>,
     pub tag: Option<u32>,
     pub order: Option<Order>,
+    pub byte_order: Option<ByteOrder>,
 }
 
 /// What is counted over a layout's zones. `faults` are the zones that do not fit and the marks where no zone begins;

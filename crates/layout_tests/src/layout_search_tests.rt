@@ -2,16 +2,26 @@
 use layout_search::{Known, search};
 use std::alloc::{AllocError, Global};
 use std::test::Fail;
-use zone_spec::Order;
+use zone_spec::{ByteOrder, Order};
 
 // The 16 parity bytes of a header with nothing in its ring, as Linux wrote them.
 const FRESH_PARITY: [u8; 16] = [
     170, 37, 213, 33, 50, 226, 53, 58, 56, 85, 25, 192, 43, 203, 173, 95,
 ];
 
-/// Adds a zone of this size with nothing in its ring, and these bytes at its end.
-fn add_zone(image: &mut Vec<u8>, size: usize, end: &[u8]) -> Result<(), AllocError> {
-    image.extend_from_slice(b"DBGC")?;
+// The same of a big-endian machine.
+const BIG_FRESH_PARITY: [u8; 16] = [
+    152, 185, 121, 61, 14, 182, 245, 176, 62, 230, 59, 183, 151, 70, 126, 97,
+];
+
+/// Adds a zone of this size with this signature, nothing in its ring, and these bytes at its end.
+fn add_zone(
+    image: &mut Vec<u8>,
+    signature: &[u8],
+    size: usize,
+    end: &[u8],
+) -> Result<(), AllocError> {
+    image.extend_from_slice(signature)?;
     for _ in 0..size.saturating_sub(end.len()).saturating_sub(4) {
         image.push(0)?;
     }
@@ -21,7 +31,15 @@ fn add_zone(image: &mut Vec<u8>, size: usize, end: &[u8]) -> Result<(), AllocErr
 fn zones(alloc: Global, count: usize, size: usize, end: &[u8]) -> Result<Vec<u8>, AllocError> {
     let mut image = Vec::new(alloc);
     for _ in 0..count {
-        add_zone(&mut image, size, end)?;
+        add_zone(&mut image, b"DBGC", size, end)?;
+    }
+    Ok(image)
+}
+
+fn big_zones(alloc: Global, count: usize, size: usize, end: &[u8]) -> Result<Vec<u8>, AllocError> {
+    let mut image = Vec::new(alloc);
+    for _ in 0..count {
+        add_zone(&mut image, b"CGBD", size, end)?;
     }
     Ok(image)
 }
@@ -115,6 +133,70 @@ fn the_known_order_is_kept(rt: HostRuntime) -> Result<(), Fail> {
     assert_eq!(rt; (layout.ftrace, layout.pmsg), (256, 0));
     assert!(rt; layout.order == Order::FtracePmsg);
     assert_eq!(rt; (found.tally.faults, found.tally.fits), (0, 3));
+    Ok(())
+}
+
+// Two zones of a big-endian machine are found as those of a little-endian one are.
+#[test]
+fn a_big_endian_region(rt: HostRuntime) -> Result<(), Fail> {
+    let image = big_zones(rt.alloc(), 2, 256, &[])?;
+    let found = search(rt.alloc(), &image, &Known::default())?.ok_or("none")?;
+    let layout = found.candidate;
+    assert!(rt; layout.byte_order == ByteOrder::Big);
+    assert_eq!(rt; (layout.mem, layout.dump, layout.ftrace), (512, 0, 0));
+    assert_eq!(rt; (layout.console, layout.pmsg, layout.parity), (256, 256, 0));
+    assert_eq!(rt; (found.tally.faults, found.tally.fits), (0, 2));
+    assert!(rt; found.taken && found.whole && found.rival.is_some());
+    Ok(())
+}
+
+// The parity of such a region is over its bytes as they stand. Without the first signature, the next tells the order.
+#[test]
+fn a_big_endian_region_with_parity(rt: HostRuntime) -> Result<(), Fail> {
+    let mut image = big_zones(rt.alloc(), 4, 512, &BIG_FRESH_PARITY)?;
+    for at in 0..4 {
+        image[at] = 0xff;
+    }
+    let found = search(rt.alloc(), &image, &Known::default())?.ok_or("none")?;
+    let layout = found.candidate;
+    assert!(rt; layout.byte_order == ByteOrder::Big);
+    assert_eq!(rt; (layout.mem, layout.dump, layout.ftrace), (2048, 512, 0));
+    assert_eq!(rt;
+        (layout.console, layout.pmsg, layout.parity),
+        (512, 512, 16)
+    );
+    assert_eq!(rt; (found.tally.faults, found.tally.fits), (1, 3));
+    assert!(rt; found.taken && found.whole);
+    Ok(())
+}
+
+// The tag of Linux 6.1.192 in such a region, whose ftrace zone is before the pmsg.
+#[test]
+fn a_big_endian_ftrace_zone(rt: HostRuntime) -> Result<(), Fail> {
+    let mut image = big_zones(rt.alloc(), 1, 256, &[])?;
+    add_zone(&mut image, b"\x43\x41\x43\x84", 256, &[])?;
+    add_zone(&mut image, b"CGBD", 256, &[])?;
+    let found = search(rt.alloc(), &image, &Known::default())?.ok_or("none")?;
+    let layout = found.candidate;
+    assert!(rt; layout.byte_order == ByteOrder::Big);
+    assert!(rt; layout.order == Order::FtracePmsg);
+    assert_eq!(rt; (layout.ftrace, layout.pmsg), (256, 256));
+    assert_eq!(rt; (layout.tag, layout.cpus), (0x601c0, 1));
+    assert_eq!(rt; (found.tally.faults, found.tally.fits), (0, 3));
+    Ok(())
+}
+
+// The known order of bytes is kept, though nothing fits by it.
+#[test]
+fn the_known_order_of_bytes_is_kept(rt: HostRuntime) -> Result<(), Fail> {
+    let image = big_zones(rt.alloc(), 2, 256, &[])?;
+    let known = Known {
+        byte_order: Some(ByteOrder::Little),
+        ..Known::default()
+    };
+    let found = search(rt.alloc(), &image, &known)?.ok_or("none")?;
+    assert!(rt; found.candidate.byte_order == ByteOrder::Little);
+    assert!(rt; found.tally.fits == 0 && !found.taken);
     Ok(())
 }
 

@@ -1,14 +1,16 @@
 -- The marked pages of two pieces of a memory are those of the first and those of the second further on. For
 -- `add_marked` and `marked_pages`.
 use Rattle.std.proofs.Common.{◌≡◌, ◌∙◌, ℕ, zero, suc, ◌+◌, ◌*◌, ◌/◌, ◌<◌, ◌≤◌, Bool, true, false, cond, List, [], ◌∷◌}
-use Rattle.std.proofs.Common.{◌++◌, length, map, refl, sym, ap, ap₂, arith, length-append, lit<, append_assoc}
+use Rattle.std.proofs.Common.{◌++◌, length, map, refl, sym, ap, ap₂, arith, length-append, append_assoc}
 use Rattle.std.proofs.Common.{add_assoc, ◌%◌, min}
-use Rattle.std.specs.Prelude.{slice_index}
+use Rattle.std.specs.Prelude.{slice_index, ◌-◌, ◌==◌, ◌&&◌, ◌||◌, nat_le}
 use Rattle.std.specs.List.{range_with_len, filter}
 use Rattle.std.proofs.lemmas.List.{get_or_append_left, get_or-append-add}
 use Rattle.std.proofs.lemmas.List.Elements.{filter-append}
 use Rattle.list_laws.proofs.Ranges.{range_with_len-add}
-use Rattle.layout_spec.specs.Marks.{is_mark}
+use Rattle.zone_spec.specs.declared.params.ByteOrder.{ByteOrder}
+use Rattle.zone_spec.specs.declared.params.ByteOrder.TheVariants.{Little, Big}
+use Rattle.layout_spec.specs.Marks.{flag, is_mark, is_mark_in, word_byte}
 use Rattle.memory_spec.specs.Pages.{is_marked, marked, pages}
 
 -- one page more
@@ -68,15 +70,46 @@ filter_shifted p q k a (suc n) same =
     (ap (λ m. filter p (range_with_len m n)) next ∙ filter_shifted p q k (a + 1) n same)
     ∙ sym (map_cond k a (q a) (filter q (range_with_len (a + 1) n)))
 
--- a mark reads twelve bytes
+abbrev marked_by : (a b c d e f : ℕ) → Bool
+marked_by a b c d e f =
+    nat_le 2 (flag (a == 68) + flag (b == 66) + flag (c == 71) + flag (d == 67)) && ((e == 0) || (f == 0))
+
+six_same : {a a' b b' c c' d d' e e' f f' : ℕ} → a ≡ a' → b ≡ b' → c ≡ c' → d ≡ d' → e ≡ e' → f ≡ f'
+    → marked_by a b c d e f ≡ marked_by a' b' c' d' e' f'
+six_same p q r s t u = cc
+
+-- the same byte of a word of the first twelve bytes
+word_same : (order : ByteOrder) (xs ys : List ℕ) (at to : ℕ)
+    → ((i : ℕ) → i < 12 → slice_index xs (at + i) ≡ slice_index ys (to + i))
+    → (a b k i : ℕ) → a ≡ at + k → b ≡ to + k → k ≤ 8 → i ≤ 3 → word_byte order xs a i ≡ word_byte order ys b i
+word_same Little xs ys at to same a b k i e f early small =
+    ap (slice_index xs) (let p : a + i ≡ at + (k + i) = omega (arith, e) in p) ∙ same (k + i) (omega (arith, early, small))
+    ∙ ap (slice_index ys) (let p : to + (k + i) ≡ b + i = omega (arith, f) in p)
+word_same Big xs ys at to same a b k i e f early small =
+    ap (slice_index xs) (let p : a + (3 - i) ≡ at + (k + (3 - i)) = omega (arith, e) in p)
+    ∙ same (k + (3 - i)) (omega (arith, early))
+    ∙ ap (slice_index ys) (let p : to + (k + (3 - i)) ≡ b + (3 - i) = omega (arith, f) in p)
+
+-- a mark of either order reads twelve bytes
+in_same : (order : ByteOrder) (xs ys : List ℕ) (at to : ℕ)
+    → ((i : ℕ) → i < 12 → slice_index xs (at + i) ≡ slice_index ys (to + i))
+    → is_mark_in order xs at ≡ is_mark_in order ys to
+unfolding is_mark_in
+in_same order xs ys at to same =
+    let p : at ≡ at + 0 = omega arith in
+    let q : to ≡ to + 0 = omega arith in
+    six_same (word_same order xs ys at to same at to 0 0 p q (omega arith) (omega arith))
+    (word_same order xs ys at to same at to 0 1 p q (omega arith) (omega arith))
+    (word_same order xs ys at to same at to 0 2 p q (omega arith) (omega arith))
+    (word_same order xs ys at to same at to 0 3 p q (omega arith) (omega arith))
+    (word_same order xs ys at to same (at + 4) (to + 4) 4 3 refl refl (omega arith) (omega arith))
+    (word_same order xs ys at to same (at + 8) (to + 8) 8 3 refl refl (omega arith) (omega arith))
+
 mark_same : (xs ys : List ℕ) (at to : ℕ) → ((i : ℕ) → i < 12 → slice_index xs (at + i) ≡ slice_index ys (to + i))
     → is_mark xs at ≡ is_mark ys to
 unfolding is_mark
 mark_same xs ys at to same =
-    let e0 : slice_index xs at ≡ slice_index ys to =
-    ap (slice_index xs) (let e : at ≡ at + 0 = omega arith in e) ∙ same 0 (lit< tt)
-    ∙ ap (slice_index ys) (let e : to + 0 ≡ to = omega arith in e) in
-    rw (e0, same 1 (lit< tt), same 2 (lit< tt), same 3 (lit< tt), same 7 (lit< tt), same 11 (lit< tt)) refl
+    ap₂ ◌||◌ (in_same Little xs ys at to same) (in_same Big xs ys at to same)
 
 -- the pages of a first piece of whole pages, and those behind it
 front_same : (xs ys : List ℕ) (k i : ℕ) → length xs ≡ 4096 * k → i < k

@@ -10,6 +10,7 @@ ghost use Rattle.script_spec.specs.Playing.{KeptUnless};
 ghost use Rattle.image_file.specs.Loading.{FrontStop};
 ghost use Rattle.grammar_spec.specs.Words.{texts};
 ghost use Rattle.grammar_spec.specs.ZoneWords.{given as given_by, order_at as order_of};
+ghost use Rattle.grammar_spec.specs.ZoneWords.{byte_order_at as byte_order_of};
 ghost use Rattle.report_tool.specs.Finding.{known_by};
 ghost use Rattle.report_tool.specs.Plans.{IsLaid};
 
@@ -17,7 +18,7 @@ use crate::{Plan, Stop};
 use image_file::load_front;
 use layout_search::{Candidate, Found, Known, params, search};
 use outside::Load;
-use ramoops_layout::{LayoutError, Order, given, order_at, parity_given};
+use ramoops_layout::{ByteOrder, LayoutError, Order, byte_order_at, given, order_at, parity_given};
 use std::alloc::Global;
 
 /// A layout has at most so many bytes.
@@ -41,6 +42,15 @@ fn order(words: &[String]) -> Option<Order>
     }
 }
 
+fn byte_order(words: &[String]) -> Option<ByteOrder>
+    ensures { result ≡ option_map byte_order_of (given_by (texts words.now) (codes "byte_order")) }
+{
+    match given(words, "byte_order") {
+        Some(place) => Some(byte_order_at(place)),
+        None => None,
+    }
+}
+
 /// What these words say of a layout whose memory is looked for.
 pub fn known(words: &[String]) -> Known
     ensures { result ≡ known_by words.now }
@@ -55,6 +65,7 @@ pub fn known(words: &[String]) -> Known
         cpus: size(words, "cpus"),
         tag: given(words, "ftrace_sig"),
         order: order(words),
+        byte_order: byte_order(words),
     }
 }
 

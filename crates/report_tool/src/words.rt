@@ -1,11 +1,11 @@
 // The words that give a layout.
 ghost use Rattle.std.specs.Prelude.{◌≡◌, ◌++◌, decimal, string_bytes, IfOk, OnOk};
 ghost use Rattle.report_tool.specs.LayoutWords.{hexadecimal, memory_words, size_words, tagged_words, ftrace_words};
-ghost use Rattle.report_tool.specs.LayoutWords.{order_words, layout_words};
+ghost use Rattle.report_tool.specs.LayoutWords.{order_words, byte_order_words, layout_words};
 
 use layout_search::Candidate;
 use std::alloc::{AllocError, Global};
-use zone_spec::Order;
+use zone_spec::{ByteOrder, Order};
 
 /// Appends words and a number after them.
 pub fn push_number(alloc: Global, text: &mut String, words: &str, n: u64) -> Result<(), AllocError>
@@ -81,6 +81,20 @@ fn order_words(alloc: Global, order: Order) -> Result<String, AllocError>
     }
 }
 
+fn byte_order_words(alloc: Global, order: ByteOrder) -> Result<String, AllocError>
+    ensures { IfOk result (λ text. string_bytes text ≡ byte_order_words order) }
+{
+    let mut text = String::new(alloc);
+    match order {
+        ByteOrder::Little => Ok(text),
+        ByteOrder::Big => {
+            text.push_str(" byte_order=")?;
+            text.push_str(ByteOrder::Big.text())?;
+            Ok(text)
+        }
+    }
+}
+
 /// The words that give a layout which was found in an image of so many bytes.
 #[tactic(auto, unfolding(crate::specs::LayoutWords::layout_words))]
 pub fn layout_words(alloc: Global, c: &Candidate, size: u64) -> Result<String, AllocError>
@@ -90,5 +104,6 @@ pub fn layout_words(alloc: Global, c: &Candidate, size: u64) -> Result<String, A
     text.push_str(&size_words(alloc, c)?)?;
     text.push_str(&ftrace_words(alloc, c)?)?;
     text.push_str(&order_words(alloc, c.order)?)?;
+    text.push_str(&byte_order_words(alloc, c.byte_order)?)?;
     Ok(text)
 }

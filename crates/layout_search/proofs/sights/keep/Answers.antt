@@ -9,4 +9,4 @@ returns-then-slots-gt0 c = λ image seen look.
     let sight : Sight = record { zone = c.args.zone.now; look = c.args.look } in
     let inside : c.slot_of.result < length c.args.sights.now.slots.items =
     omega (arith, c.slot_of.ensures, c.len-slots.ensures) in
-    one_more_seen image c.args.sights.now _ c.slot_of.result sight inside refl look seen
+    one_more_seen image c.args.sights.now _ c.slot_of.result sight inside refl refl look seen

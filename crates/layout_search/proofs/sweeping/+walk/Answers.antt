@@ -1,7 +1,8 @@
 -- Each value of the word's list is of the family. One more settles its candidates and leaves the others settled. For
 -- `walk`.
-use Rattle.std.proofs.Common.{Option, get_or, length, sym, subst, arith}
+use Rattle.std.proofs.Common.{◌≡◌, ◌∙◌, Option, get_or, length, sym, ap, subst, arith}
 use Rattle.layout_spec.specs.declared.Candidate.{Candidate}
+use Rattle.layout_spec.specs.Family.{byte_order_for}
 use Rattle.layout_search.specs.Levels.{IsListed, after, having, levels_from}
 use Rattle.layout_search.specs.Placed.{IsPassed}
 use Rattle.layout_search.specs.Tried.{IsSound, SettledOver, SettledBefore, TagsSettled}
@@ -9,7 +10,7 @@ use Rattle.layout_search.specs.declared.levels.Reached.{Reached}
 use Rattle.layout_search.specs.declared.levels.Level.{Level}
 use Rattle.layout_search.proofs.BestSoFar.{advances_trans, chosen_of, fewer_left, one_more, over_done, over_later}
 use Rattle.layout_search.proofs.BestSoFar.{over_last, over_none, step_listed, step_settled, step_before, stop_here}
-use Rattle.layout_search.proofs.BestSoFar.{before_nowhere}
+use Rattle.layout_search.proofs.BestSoFar.{before_nowhere, having_order}
 use Rattle.layout_search.proofs.Nearer.{near_aim, settled_wider, before_wider}
 use Rattle.layout_search.proofs.sweeping.+walk.Goals as goal
 
@@ -36,7 +37,12 @@ walk-requires t c =
     (subst (IsSound known c.args.image.now c.args.aim.now.besides) (sym c.spend.ensures.best) c.loop-k.invariant.sound) in
     let near = near_aim c.args.image.now c.args.aim.now c.narrowed-near.result c.loop-k.state.best c.narrowed-near.ensures
     c.requires.aim in
-    (omega (arith, c.decreases, fewer), (near, (c.requires.lists, (listed, (passed, (sound, c.in_ok-may.ensures.seen))))))
+    let ordered : c.having-candidate.result.byte_order ≡ byte_order_for known c.args.image.now =
+    ap (λ (d : Candidate). d.byte_order) c.having-candidate.ensures
+    ∙ having_order c.in-Some.level c.args.c.now (get_or c.values-list.result.now c.loop-k.k 0) ∙ c.requires.ordered in (
+      omega (arith, c.decreases, fewer),
+      (near, (c.requires.lists, (listed, (passed, (ordered, (sound, c.in_ok-may.ensures.seen)))))),
+    )
 
 pub returns-in_default-clause-settled : goal.returns-in_default-clause-settled
 returns-in_default-clause-settled t c =

@@ -28,7 +28,7 @@ loop-k-preserved c =
           (λ j lt. later c.in_ok-try_candidate.ensures.advances (c.loop-k.invariant.settled j lt))
           (c.in_ok-try_candidate.ensures.settled c.args.known.now);
       sound = c.in_ok-try_candidate.ensures.sound c.args.known.now
-          (λ has. family_of c.args.known.now c.args.image.now c.args.c.now tag c.requires.chosen member has)
+          (λ has. family_of c.args.known.now c.args.image.now c.args.c.now tag c.requires.chosen c.requires.ordered member has)
           c.loop-k.invariant.sound;
       seen = c.in_ok-try_candidate.ensures.seen;
     }
