@@ -1,5 +1,5 @@
 -- The zones of a storage, and what a boot takes them for, in the words that a report has for those of a region
-use Rattle.std.specs.Prelude.{ℕ, ◌-◌, List, [], map, Option, Some}
+use Rattle.std.specs.Prelude.{ℕ, List, [], map, Option, Some}
 use Rattle.psz_spec.specs.declared.Kind.{Kind as StorageKind}
 use Rattle.psz_spec.specs.declared.Kind.TheVariants.{Pmsg as StoragePmsg, Console as StorageConsole}
 use Rattle.psz_spec.specs.declared.Kind.TheVariants.{Ftrace as StorageFtrace, Dump as StorageDump}
