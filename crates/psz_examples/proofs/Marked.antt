@@ -1,12 +1,14 @@
 -- The rows on marks, machines and parameters compute
 use Rattle.std.proofs.Common.{refl}
 use Rattle.psz_spec.specs.Headers.{word, dump_header}
-use Rattle.psz_spec.specs.Marks.{mark_at, marks_from, gcd_in, gcd, step_after, step_of, rings_of, shown_sizes}
+use Rattle.psz_spec.specs.Marks.{mark_at, order_at, order_from, marks_from, gcd_in, gcd, step_after, step_of, rings_of, shown_sizes}
 use Rattle.psz_spec.specs.Marks.{machine_shown}
 use Rattle.psz_spec.specs.Parameters.{kib_size}
 use Rattle.psz_examples.specs.Headers.{wide_front, x86_front}
 use Rattle.psz_examples.specs.Marks.{marked_storage, MarksRow, TooLongRow, JustFitsRow, StepRow, AllShownRow}
 use Rattle.psz_examples.specs.Marks.{OneDumpRow, OneSmallRow, OneLongRow, FirstMissingRow, NoDumpRow, WideMachineRow}
+use Rattle.psz_examples.specs.Marks.{big_marked_storage, both_orders, BigMarksRow, LittleOrderRow, BigOrderRow}
+use Rattle.psz_examples.specs.Marks.{FirstOrderRow, OtherNoMarkRow, MixedMagicRow, NoMarkRow}
 use Rattle.psz_examples.specs.Marks.{X86MachineRow, NoMachineRow, KibRow, FiveKibRow, TenKibRow, OddKibRow, NoKibRow}
 
 pub marks : MarksRow
@@ -80,3 +82,31 @@ odd_kib = refl
 pub no_kib : NoKibRow
 unfolding kib_size
 no_kib = refl
+
+pub big_marks : BigMarksRow
+unfolding word mark_at marks_from big_marked_storage
+big_marks = refl
+
+pub little_order : LittleOrderRow
+unfolding word mark_at order_at order_from marked_storage
+little_order = refl
+
+pub big_order : BigOrderRow
+unfolding word mark_at order_at order_from big_marked_storage
+big_order = refl
+
+pub first_order : FirstOrderRow
+unfolding word mark_at order_at order_from both_orders
+first_order = refl
+
+pub other_no_mark : OtherNoMarkRow
+unfolding word mark_at marks_from both_orders
+other_no_mark = refl
+
+pub mixed_magic : MixedMagicRow
+unfolding word mark_at
+mixed_magic = refl
+
+pub no_mark : NoMarkRow
+unfolding word mark_at order_at order_from
+no_mark = refl

@@ -10,12 +10,15 @@ use Rattle.psz_examples.specs.Layouts.{DumpsAloneRow, AllKindsRow, OddPlaceRow, 
 use Rattle.psz_examples.specs.Layouts.{UnevenRow, MoreThanCpusRow, LeftOverRow, MostRow}
 use Rattle.psz_examples.specs.Headers.{wide_front, x86_front, WideHeaderRow, X86HeaderRow, ErasedRow, UnwrittenRow}
 use Rattle.psz_examples.specs.Headers.{OvertopRow, NoDumpRow, ShortDumpRow, NoDumpEmptyRow, HeaderAloneRow, FilledRow}
-use Rattle.psz_examples.specs.Headers.{OneMoreRow}
+use Rattle.psz_examples.specs.Headers.{OneMoreRow, big_front, big_narrow_front, BigHeaderRow, BigNarrowHeaderRow}
+use Rattle.psz_examples.specs.Headers.{BigFilledRow, BigOneMoreRow, BigErasedRow, BigAsLittleRow, LittleAsBigRow}
 use Rattle.psz_examples.specs.Rings.{WrappedRow, NotYetRow, FullRow, BeyondRow, NotYetStateRow, StartOvertopRow}
-use Rattle.psz_examples.specs.Rings.{ConsoleRow, FtraceRow, OtherKindRow}
+use Rattle.psz_examples.specs.Rings.{ConsoleRow, FtraceRow, OtherKindRow, BigWrappedRow, BigRingRow, BigBeyondRow}
+use Rattle.psz_examples.specs.Rings.{BigConsoleRow}
 use Rattle.psz_examples.specs.Listings.{storage, storage_zones, all_kinds_storage, all_kinds_zones, ListingRow}
 use Rattle.psz_examples.specs.Listings.{TotalRow, NegativeRow, UnknownRow, NameRow, NextRow, AllListedRow}
-use Rattle.psz_examples.specs.Listings.{ErasedCountsRow, NegativeTimeRow, PanicCountRow}
+use Rattle.psz_examples.specs.Listings.{ErasedCountsRow, NegativeTimeRow, PanicCountRow, big_storage, big_zones}
+use Rattle.psz_examples.specs.Listings.{BigListedRow, BigNextRow, OtherOrderListsNothingRow}
 
 pub dumps_alone : DumpsAloneRow
 unfolding zones_from zones_of
@@ -176,3 +179,59 @@ negative_time = refl
 pub panic_count : PanicCountRow
 unfolding word dump_header state_of with_bytes cursor_of storage storage_zones
 panic_count = refl
+
+pub big_header : BigHeaderRow
+unfolding word dump_header big_front
+big_header = refl
+
+pub big_narrow_header : BigNarrowHeaderRow
+unfolding word dump_header big_narrow_front
+big_narrow_header = refl
+
+pub big_filled : BigFilledRow
+unfolding word dump_header state_of big_front
+big_filled = refl
+
+pub big_one_more : BigOneMoreRow
+unfolding word dump_header state_of big_front
+big_one_more = refl
+
+pub big_erased : BigErasedRow
+unfolding word dump_header state_of big_front
+big_erased = refl
+
+pub big_as_little : BigAsLittleRow
+unfolding word dump_header state_of big_front
+big_as_little = refl
+
+pub little_as_big : LittleAsBigRow
+unfolding word dump_header state_of wide_front
+little_as_big = refl
+
+pub big_wrapped : BigWrappedRow
+unfolding word
+big_wrapped = refl
+
+pub big_ring_state : BigRingRow
+unfolding word state_of
+big_ring_state = refl
+
+pub big_beyond : BigBeyondRow
+unfolding word state_of
+big_beyond = refl
+
+pub big_console : BigConsoleRow
+unfolding word state_of
+big_console = refl
+
+pub big_listed : BigListedRow
+unfolding digits word dump_header state_of total_line listed_in big_storage big_zones
+big_listed = refl
+
+pub big_next : BigNextRow
+unfolding word dump_header state_of with_bytes cursor_of big_storage big_zones
+big_next = refl
+
+pub other_order : OtherOrderListsNothingRow
+unfolding digits word dump_header state_of total_line listed_in big_storage big_zones
+other_order = refl

@@ -1,7 +1,7 @@
 -- Headers of dumps, and what a boot takes dump zones for
 use Rattle.std.specs.Prelude.{◌≡◌, ℕ, true, false, List, [], ◌∷◌, drop, slice_set}
 use Rattle.psz_spec.specs.declared.Kind.TheVariants.{Dump}
-use Rattle.psz_spec.specs.declared.Machine.TheVariants.{Aligned, X86}
+use Rattle.psz_spec.specs.declared.Machine.TheVariants.{Aligned, X86, BigEndian}
 use Rattle.psz_spec.specs.declared.Zone.{Zone}
 use Rattle.psz_spec.specs.declared.State.TheVariants.{Unsigned, Overtop, NoDump, Erased, Broken, Found}
 use Rattle.psz_spec.specs.Headers.{dump_header}
@@ -81,3 +81,58 @@ FilledRow = state_of Aligned small (slice_set (slice_set wide_front 4 52) 5 0) �
 
 abbrev pub OneMoreRow : Type 0
 OneMoreRow = state_of Aligned small (slice_set (slice_set wide_front 4 53) 5 0) ≡ Overtop
+
+-- ---- of big-endian machines
+
+-- the dump of the capture stock-64 as a big-endian machine of 64 bits would write it: CGBD
+unfoldable pub big_front : List ℕ
+big_front =
+    67 ∷ 71 ∷ 66 ∷ 68 ∷ 0 ∷ 0 ∷ 13 ∷ 92 ∷ 0 ∷ 0 ∷ 0 ∷ 0
+    ∷ 77 ∷ 252 ∷ 58 ∷ 229 ∷ 0 ∷ 0 ∷ 0 ∷ 0 ∷ 0 ∷ 0 ∷ 0 ∷ 0 ∷ 107 ∷ 11 ∷ 247 ∷ 175
+    ∷ 0 ∷ 0 ∷ 0 ∷ 0 ∷ 18 ∷ 72 ∷ 207 ∷ 45 ∷ 1 ∷ 0 ∷ 0 ∷ 0 ∷ 0 ∷ 0 ∷ 0 ∷ 2 ∷ 0 ∷ 0 ∷ 0 ∷ 2 ∷ 0 ∷ 0 ∷ 0 ∷ 0 ∷ []
+
+abbrev pub BigHeaderRow : Type 0
+BigHeaderRow = dump_header BigEndian (drop 12 big_front) ≡ record {
+  magic = 0x4dfc3ae5;
+  secs = 1_795_946_415;
+  nanos = 306_761_517;
+  packed = true;
+  count = 2;
+  reason = 2;
+}
+
+-- as one of 32 bits that pads would: 32 bits of nanoseconds, then 0
+unfoldable pub big_narrow_front : List ℕ
+big_narrow_front =
+    67 ∷ 71 ∷ 66 ∷ 68 ∷ 0 ∷ 0 ∷ 13 ∷ 92 ∷ 0 ∷ 0 ∷ 0 ∷ 0
+    ∷ 77 ∷ 252 ∷ 58 ∷ 229 ∷ 0 ∷ 0 ∷ 0 ∷ 0 ∷ 0 ∷ 0 ∷ 0 ∷ 1 ∷ 107 ∷ 11 ∷ 247 ∷ 175
+    ∷ 18 ∷ 72 ∷ 207 ∷ 45 ∷ 0 ∷ 0 ∷ 0 ∷ 0 ∷ 0 ∷ 0 ∷ 0 ∷ 0 ∷ 0 ∷ 0 ∷ 0 ∷ 3 ∷ 0 ∷ 0 ∷ 0 ∷ 1 ∷ 0 ∷ 0 ∷ 0 ∷ 0 ∷ []
+
+-- 2^32 seconds later, not packed, the third panic
+abbrev pub BigNarrowHeaderRow : Type 0
+BigNarrowHeaderRow = dump_header BigEndian (drop 12 big_narrow_front) ≡ record {
+  magic = 0x4dfc3ae5;
+  secs = 6_090_913_711;
+  nanos = 306_761_517;
+  packed = false;
+  count = 3;
+  reason = 1;
+}
+
+-- 52 bytes of length fill a zone of 64
+abbrev pub BigFilledRow : Type 0
+BigFilledRow = state_of BigEndian small (slice_set (slice_set big_front 6 0) 7 52) ≡ Found
+
+-- 53 bytes are one too many
+abbrev pub BigOneMoreRow : Type 0
+BigOneMoreRow = state_of BigEndian small (slice_set (slice_set big_front 6 0) 7 53) ≡ Overtop
+
+abbrev pub BigErasedRow : Type 0
+BigErasedRow = state_of BigEndian small (slice_set (slice_set big_front 6 0) 7 0) ≡ Erased
+
+-- a dump of the other order, both ways
+abbrev pub BigAsLittleRow : Type 0
+BigAsLittleRow = state_of Aligned small (slice_set (slice_set big_front 6 0) 7 52) ≡ Unsigned
+
+abbrev pub LittleAsBigRow : Type 0
+LittleAsBigRow = state_of BigEndian small (slice_set (slice_set wide_front 4 52) 5 0) ≡ Unsigned

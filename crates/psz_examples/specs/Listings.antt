@@ -1,7 +1,7 @@
 -- What the next boot lists
 use Rattle.std.specs.Prelude.{slice_set, ◌≡◌, ℕ, true, false, Bool, List, [], ◌∷◌, ◌++◌, codes, Some, None}
 use Rattle.psz_spec.specs.declared.Kind.TheVariants.{Pmsg, Console, Ftrace, Dump}
-use Rattle.psz_spec.specs.declared.Machine.TheVariants.{Aligned}
+use Rattle.psz_spec.specs.declared.Machine.TheVariants.{Aligned, BigEndian}
 use Rattle.psz_spec.specs.declared.Zone.{Zone}
 use Rattle.psz_spec.specs.declared.DumpHeader.{DumpHeader}
 use Rattle.psz_spec.specs.declared.Name.TheVariants.{Dump as DumpName, Ftrace as FtraceName, Pmsg as PmsgName}
@@ -9,7 +9,7 @@ use Rattle.psz_spec.specs.declared.Name.TheVariants.{Console as ConsoleName}
 use Rattle.psz_spec.specs.Records.{listed_in, name_text, total_line}
 use Rattle.psz_spec.specs.Cursor.{cursor_of, next_zone}
 use Rattle.psz_examples.specs.Layouts.{zone}
-use Rattle.psz_examples.specs.Rings.{ring}
+use Rattle.psz_examples.specs.Rings.{ring, big_ring}
 
 -- a dump zone of 56 bytes: of a length, packed or not, at so many seconds, of this count, and four bytes
 abbrev pub dump_bytes : ℕ → ℕ → ℕ → ℕ → List ℕ → List ℕ
@@ -103,3 +103,40 @@ NegativeTimeRow = cursor_of Aligned (zone Dump 0 16 56 ∷ []) (slice_set storag
 abbrev pub PanicCountRow : Type 0
 PanicCountRow = cursor_of Aligned storage_zones (slice_set storage 60 1)
     ≡ record { latest = 90; next = 3; oopses = 5; panics = 3 }
+
+-- ---- of a big-endian machine
+
+-- a dump zone of 56 bytes, as `dump_bytes`
+abbrev pub big_dump_bytes : ℕ → ℕ → ℕ → ℕ → List ℕ → List ℕ
+big_dump_bytes len packed secs count text =
+    67 ∷ 71 ∷ 66 ∷ 68 ∷ 0 ∷ 0 ∷ 0 ∷ len ∷ 0 ∷ 0 ∷ 0 ∷ 0
+    ∷ 77 ∷ 252 ∷ 58 ∷ 229 ∷ 0 ∷ 0 ∷ 0 ∷ 0 ∷ 0 ∷ 0 ∷ 0 ∷ 0 ∷ 0 ∷ 0 ∷ 0 ∷ secs
+    ∷ 0 ∷ 0 ∷ 0 ∷ 0 ∷ 0 ∷ 0 ∷ 0 ∷ 7 ∷ packed ∷ 0 ∷ 0 ∷ 0 ∷ 0 ∷ 0 ∷ 0 ∷ count ∷ 0 ∷ 0 ∷ 0 ∷ 2 ∷ 0 ∷ 0 ∷ 0 ∷ 0 ∷ text
+
+-- a pmsg, a console, a dump and a packed one
+unfoldable pub big_storage : List ℕ
+big_storage =
+    big_ring 8 3 ++ slice_set (big_ring 3 3) 3 70 ++ big_dump_bytes 44 0 60 3 (codes "text")
+    ++ big_dump_bytes 43 1 90 5 (codes "zip.")
+
+unfoldable pub big_zones : List Zone
+big_zones = zone Pmsg 0 0 20 ∷ zone Console 0 20 20 ∷ zone Dump 0 40 56 ∷ zone Dump 1 96 56 ∷ []
+
+abbrev pub BigListedRow : Type 0
+BigListedRow = listed_in BigEndian big_zones big_storage
+    ≡ record {
+      name = DumpName 0 false;
+      logs = codes "Oops: Total 3 times\ntext" ∷ [];
+      header = Some (oops_at 60 false 3);
+    }
+    ∷ record { name = DumpName 1 true; logs = codes "zip" ∷ []; header = Some (oops_at 90 true 5) }
+    ∷ record { name = PmsgName; logs = codes "defghabc" ∷ []; header = None }
+    ∷ record { name = ConsoleName; logs = codes "abc" ∷ []; header = None } ∷ []
+
+-- the last zone has the newest dump
+abbrev pub BigNextRow : Type 0
+BigNextRow = cursor_of BigEndian big_zones big_storage ≡ record { latest = 90; next = 2; oopses = 5; panics = 0 }
+
+-- to a little-endian machine it is empty
+abbrev pub OtherOrderListsNothingRow : Type 0
+OtherOrderListsNothingRow = listed_in Aligned big_zones big_storage ≡ []

@@ -2,16 +2,17 @@
 use Rattle.std.specs.Prelude.{◌≡◌, ℕ, true, false, List, [], ◌∷◌, ◌++◌, codes, drop, replicate, Some, None}
 use Rattle.psz_spec.specs.declared.Kind.{Kind}
 use Rattle.psz_spec.specs.declared.Kind.TheVariants.{Pmsg, Console, Ftrace, Dump}
+use Rattle.zone_spec.specs.declared.params.ByteOrder.TheVariants.{Little, Big}
 use Rattle.psz_spec.specs.declared.Machine.TheVariants.{Aligned, X86}
 use Rattle.psz_spec.specs.declared.Mark.{Mark}
 use Rattle.psz_spec.specs.declared.Sizes.{Sizes}
 use Rattle.psz_spec.specs.declared.Shown.{Shown}
-use Rattle.psz_spec.specs.Marks.{mark_at, marks_in, step_of, shown_sizes, machine_shown}
+use Rattle.psz_spec.specs.Marks.{mark_at, order_in, marks_in, step_of, shown_sizes, machine_shown}
 use Rattle.psz_spec.specs.Parameters.{kib_size}
 use Rattle.psz_examples.specs.Layouts.{sizes}
 use Rattle.psz_examples.specs.Headers.{wide_front, x86_front}
-use Rattle.psz_examples.specs.Rings.{ring}
-use Rattle.psz_examples.specs.Listings.{dump_bytes}
+use Rattle.psz_examples.specs.Rings.{ring, big_ring}
+use Rattle.psz_examples.specs.Listings.{dump_bytes, big_dump_bytes}
 
 abbrev pub mark : Kind → ℕ → ℕ → Mark
 mark kind at len = record { kind = kind; at = at; len = len }
@@ -29,14 +30,14 @@ marked_storage =
     ++ dump_bytes 44 0 90 4 (codes "text") ++ replicate 456 0
 
 abbrev pub MarksRow : Type 0
-MarksRow = marks_in marked_storage ≡ mark Pmsg 0 8 ∷ mark Dump 1024 44 ∷ mark Dump 1536 44 ∷ []
+MarksRow = marks_in Little marked_storage ≡ mark Pmsg 0 8 ∷ mark Dump 1024 44 ∷ mark Dump 1536 44 ∷ []
 
 -- one byte too long for the storage
 abbrev pub TooLongRow : Type 0
-TooLongRow = mark_at 2060 2040 (ring 9 9) ≡ None
+TooLongRow = mark_at Little 2060 2040 (ring 9 9) ≡ None
 
 abbrev pub JustFitsRow : Type 0
-JustFitsRow = mark_at 2060 2040 (ring 8 8) ≡ Some (mark Pmsg 2040 8)
+JustFitsRow = mark_at Little 2060 2040 (ring 8 8) ≡ Some (mark Pmsg 2040 8)
 
 -- distances of 8192 and 12288: zones of 4096
 abbrev pub StepRow : Type 0
@@ -93,3 +94,39 @@ OddKibRow = kib_size 63 ≡ 4096
 
 abbrev pub NoKibRow : Type 0
 NoKibRow = kib_size 0 ≡ 0
+
+-- ---- the order of bytes
+
+-- the same storage of a big-endian machine
+unfoldable pub big_marked_storage : List ℕ
+big_marked_storage =
+    big_ring 8 3 ++ replicate 1004 0 ++ big_dump_bytes 44 0 60 3 (codes "text") ++ replicate 456 0
+    ++ big_dump_bytes 44 0 90 4 (codes "text") ++ replicate 456 0
+
+abbrev pub BigMarksRow : Type 0
+BigMarksRow = marks_in Big big_marked_storage ≡ mark Pmsg 0 8 ∷ mark Dump 1024 44 ∷ mark Dump 1536 44 ∷ []
+
+abbrev pub LittleOrderRow : Type 0
+LittleOrderRow = order_in marked_storage ≡ Little
+
+abbrev pub BigOrderRow : Type 0
+BigOrderRow = order_in big_marked_storage ≡ Big
+
+-- a dump of each order: the first decides, and the other is no mark
+unfoldable pub both_orders : List ℕ
+both_orders =
+    replicate 512 0 ++ big_dump_bytes 44 0 60 3 (codes "text") ++ replicate 456 0 ++ dump_bytes 44 0 90 4 (codes "text")
+    ++ replicate 456 0
+
+abbrev pub FirstOrderRow : Type 0
+FirstOrderRow = order_in both_orders ≡ Big
+
+abbrev pub OtherNoMarkRow : Type 0
+OtherNoMarkRow = marks_in Big both_orders ≡ mark Dump 512 44 ∷ []
+
+-- a big-endian signature and length before a little-endian magic number
+abbrev pub MixedMagicRow : Type 0
+MixedMagicRow = mark_at Big 512 0 (67 ∷ 71 ∷ 66 ∷ 68 ∷ 0 ∷ 0 ∷ 0 ∷ 44 ∷ 0 ∷ 0 ∷ 0 ∷ 0 ∷ 229 ∷ 58 ∷ 252 ∷ 77 ∷ []) ≡ None
+
+abbrev pub NoMarkRow : Type 0
+NoMarkRow = order_in (replicate 512 0) ≡ Little

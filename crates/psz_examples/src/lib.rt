@@ -6,16 +6,21 @@ ghost use Rattle.psz_examples.specs.Layouts.{DumpsAloneRow, AllKindsRow, OddPlac
 ghost use Rattle.psz_examples.specs.Layouts.{NoDumpZoneRow, UnevenRow, MoreThanCpusRow, LeftOverRow, MostRow};
 ghost use Rattle.psz_examples.specs.Headers.{WideHeaderRow, X86HeaderRow, ErasedRow, UnwrittenRow, OvertopRow};
 ghost use Rattle.psz_examples.specs.Headers.{NoDumpRow, ShortDumpRow, NoDumpEmptyRow, HeaderAloneRow, FilledRow};
-ghost use Rattle.psz_examples.specs.Headers.{OneMoreRow};
+ghost use Rattle.psz_examples.specs.Headers.{OneMoreRow, BigHeaderRow, BigNarrowHeaderRow, BigFilledRow, BigOneMoreRow};
+ghost use Rattle.psz_examples.specs.Headers.{BigErasedRow, BigAsLittleRow, LittleAsBigRow};
 ghost use Rattle.psz_examples.specs.Rings.{WrappedRow, NotYetRow, FullRow, BeyondRow, NotYetStateRow, StartOvertopRow};
-ghost use Rattle.psz_examples.specs.Rings.{ConsoleRow, FtraceRow, OtherKindRow};
+ghost use Rattle.psz_examples.specs.Rings.{ConsoleRow, FtraceRow, OtherKindRow, BigWrappedRow, BigRingRow};
+ghost use Rattle.psz_examples.specs.Rings.{BigBeyondRow, BigConsoleRow};
 ghost use Rattle.psz_examples.specs.Listings.{ListingRow, TotalRow, NegativeRow, UnknownRow, NameRow, NextRow};
 ghost use Rattle.psz_examples.specs.Listings.{AllListedRow, ErasedCountsRow, NegativeTimeRow, PanicCountRow};
+ghost use Rattle.psz_examples.specs.Listings.{BigListedRow, BigNextRow, OtherOrderListsNothingRow};
 ghost use Rattle.psz_examples.specs.Failures.{ShortDumpFaultRow, EmptyPackedRow, PackedRow, StartBeyondRow};
 ghost use Rattle.psz_examples.specs.Failures.{PassedOverRow, OthersListedRow, PartsRow, PackedNameRow, RingNameRow};
 ghost use Rattle.psz_examples.specs.Marks.{NoDumpRow as NoDumpMarkRow};
 ghost use Rattle.psz_examples.specs.Marks.{MarksRow, TooLongRow, JustFitsRow, StepRow, AllShownRow, OneDumpRow};
 ghost use Rattle.psz_examples.specs.Marks.{OneSmallRow, OneLongRow, FirstMissingRow, WideMachineRow, X86MachineRow};
+ghost use Rattle.psz_examples.specs.Marks.{BigMarksRow, LittleOrderRow, BigOrderRow, FirstOrderRow, OtherNoMarkRow};
+ghost use Rattle.psz_examples.specs.Marks.{MixedMagicRow, NoMarkRow};
 ghost use Rattle.psz_examples.specs.Marks.{NoMachineRow, KibRow, FiveKibRow, TenKibRow, OddKibRow, NoKibRow};
 
 /// Dumps alone; all four kinds; ftrace that does not divide by the processors; what is left over; and sizes that no
@@ -33,7 +38,8 @@ pub fn layouts()
     ensures most { MostRow }
 {}
 
-/// The headers of dumps of a 64-bit kernel and of one of x86 of 32 bits, and what a boot takes dump zones for.
+/// The headers of dumps of a 64-bit kernel, of one of x86 of 32 bits and of big-endian ones of 64 and 32 bits, and what a
+/// boot takes dump zones for.
 pub fn headers()
     ensures wide { WideHeaderRow }
     ensures x86 { X86HeaderRow }
@@ -46,9 +52,16 @@ pub fn headers()
     ensures header_alone { HeaderAloneRow }
     ensures filled { FilledRow }
     ensures one_more { OneMoreRow }
+    ensures big_header { BigHeaderRow }
+    ensures big_narrow_header { BigNarrowHeaderRow }
+    ensures big_filled { BigFilledRow }
+    ensures big_one_more { BigOneMoreRow }
+    ensures big_erased { BigErasedRow }
+    ensures big_as_little { BigAsLittleRow }
+    ensures little_as_big { LittleAsBigRow }
 {}
 
-/// Rings that went round, that did not, that are just full, and one that no kernel reads.
+/// Rings that went round, that did not, that are just full, and one that no kernel reads, in either order of bytes.
 pub fn rings()
     ensures wrapped { WrappedRow }
     ensures not_yet { NotYetRow }
@@ -59,9 +72,13 @@ pub fn rings()
     ensures console { ConsoleRow }
     ensures ftrace { FtraceRow }
     ensures other_kind { OtherKindRow }
+    ensures big_wrapped { BigWrappedRow }
+    ensures big_ring_state { BigRingRow }
+    ensures big_beyond { BigBeyondRow }
+    ensures big_console { BigConsoleRow }
 {}
 
-/// A storage of four zones as the next boot lists it, and its next zone; lines and names.
+/// Storages of four zones as the next boot lists them, one of a big-endian machine, and their next zones; lines and names.
 pub fn listings()
     ensures listing { ListingRow }
     ensures total { TotalRow }
@@ -73,6 +90,9 @@ pub fn listings()
     ensures erased_counts { ErasedCountsRow }
     ensures negative_time { NegativeTimeRow }
     ensures panic_count { PanicCountRow }
+    ensures big_listed { BigListedRow }
+    ensures big_next { BigNextRow }
+    ensures other_order { OtherOrderListsNothingRow }
 {}
 
 /// Zones at which the kernel fails, what is listed beside them, and where the logs of records stand.
@@ -88,7 +108,7 @@ pub fn failures()
     ensures ring_name { RingNameRow }
 {}
 
-/// The sizes and the machine that bytes show, and sizes in KiB.
+/// The sizes, the machine and the order of bytes that bytes show, and sizes in KiB.
 pub fn marks()
     ensures marks { MarksRow }
     ensures too_long { TooLongRow }
@@ -108,4 +128,11 @@ pub fn marks()
     ensures ten_kib { TenKibRow }
     ensures odd_kib { OddKibRow }
     ensures no_kib { NoKibRow }
+    ensures big_marks { BigMarksRow }
+    ensures little_order { LittleOrderRow }
+    ensures big_order { BigOrderRow }
+    ensures first_order { FirstOrderRow }
+    ensures other_no_mark { OtherNoMarkRow }
+    ensures mixed_magic { MixedMagicRow }
+    ensures no_mark { NoMarkRow }
 {}

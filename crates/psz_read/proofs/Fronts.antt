@@ -1,16 +1,18 @@
 -- State, part, fault and cursor of a zone depend on the words of its header and on a dump's header, and these on its
 -- first 52 bytes. For `front_is_enough`.
-use Rattle.std.proofs.Common.{◌≡◌, ℕ, ◌+◌, ◌-◌, ◌<◌, ◌≤◌, refl, sym, ap, ◌∙◌, arith, List, [], ◌∷◌, take, drop, Bool}
+use Rattle.std.proofs.Common.{◌≡◌, ℕ, ◌+◌, ◌-◌, ◌≤◌, refl, sym, ap, ◌∙◌, arith, List, [], ◌∷◌, take, drop}
 use Rattle.std.proofs.Common.{get_or-take}
 use Rattle.std.specs.Prelude.{Option, Some, None, slice_index, nat_lt, ◌==◌, not, ◌&&◌, if◌then◌else◌}
-use Rattle.std.specs.Int.{w32, from_le_bytes}
+use Rattle.zone_spec.specs.declared.params.ByteOrder.{ByteOrder}
+use Rattle.zone_spec.specs.declared.params.ByteOrder.TheVariants.{Little, Big}
+use Rattle.zone_spec.specs.WordBytes.{word_of}
 use Rattle.std.proofs.lemmas.List.{drop-take}
 use Rattle.psz_spec.specs.declared.Kind.{Kind}
 use Rattle.psz_spec.specs.declared.Kind.TheVariants.{Pmsg, Console, Ftrace, Dump}
 use Rattle.psz_spec.specs.declared.Zone.{Zone}
 use Rattle.psz_spec.specs.declared.Words.{Words}
 use Rattle.psz_spec.specs.declared.Machine.{Machine}
-use Rattle.psz_spec.specs.declared.Machine.TheVariants.{Aligned, X86}
+use Rattle.psz_spec.specs.declared.Machine.TheVariants.{Aligned, X86, BigEndian}
 use Rattle.psz_spec.specs.declared.DumpHeader.{DumpHeader}
 use Rattle.psz_spec.specs.declared.Part.{Part}
 use Rattle.psz_spec.specs.declared.Cursor.{Cursor}
@@ -18,7 +20,7 @@ use Rattle.psz_spec.specs.declared.KernelFault.{KernelFault}
 use Rattle.psz_spec.specs.declared.KernelFault.TheVariants.{EmptyPacked}
 use Rattle.psz_spec.specs.declared.State.{State}
 use Rattle.psz_spec.specs.declared.State.TheVariants.{Unsigned, Overtop, NoDump, Erased, Broken, Found}
-use Rattle.psz_spec.specs.Headers.{word, words_of, sig_of, cap_of, dump_magic, header_len, dump_header}
+use Rattle.psz_spec.specs.Headers.{order_of, word, words_of, sig_of, cap_of, dump_magic, header_len, dump_header}
 use Rattle.psz_spec.specs.States.{data_of, ring_state, signed_state, state_of}
 use Rattle.psz_spec.specs.Failures.{found_fault, broken_fault, fault_by, kernel_fault}
 use Rattle.psz_spec.specs.Parts.{ring_log, dump_log, part_with, part_if, part_of}
@@ -26,14 +28,16 @@ use Rattle.psz_spec.specs.Cursor.{has_header, with_header, with_bytes}
 
 -- ---- words
 
-four : (a b c d e f g h : ℕ) → a ≡ e → b ≡ f → c ≡ g → d ≡ h
-    → from_le_bytes w32 (a ∷ b ∷ c ∷ d ∷ []) ≡ from_le_bytes w32 (e ∷ f ∷ g ∷ h ∷ [])
-four a b c d e f g h p q r s = cc
+four : (order : ByteOrder) (a b c d e f g h : ℕ) → a ≡ e → b ≡ f → c ≡ g → d ≡ h
+    → word_of order (a ∷ b ∷ c ∷ d ∷ []) ≡ word_of order (e ∷ f ∷ g ∷ h ∷ [])
+four order a b c d e f g h p q r s =
+    ap (word_of order) (let e : a ∷ b ∷ c ∷ d ∷ [] ≡ e ∷ f ∷ g ∷ h ∷ [] = cc in e)
 
-word_front : (n : ℕ) (bytes : List ℕ) (at : ℕ) → at + 4 ≤ n → word (take n bytes) at ≡ word bytes at
+word_front : (order : ByteOrder) (n : ℕ) (bytes : List ℕ) (at : ℕ) → at + 4 ≤ n
+    → word order (take n bytes) at ≡ word order bytes at
 unfolding word
-word_front n bytes at h =
-    four (slice_index (take n bytes) at) (slice_index (take n bytes) (at + 1)) (slice_index (take n bytes) (at + 2))
+word_front order n bytes at h =
+    four order (slice_index (take n bytes) at) (slice_index (take n bytes) (at + 1)) (slice_index (take n bytes) (at + 2))
     (slice_index (take n bytes) (at + 3)) (slice_index bytes at) (slice_index bytes (at + 1))
     (slice_index bytes (at + 2)) (slice_index bytes (at + 3)) (get_or-take n bytes at 0 (omega (arith, h)))
     (get_or-take n bytes (at + 1) 0 (omega (arith, h))) (get_or-take n bytes (at + 2) 0 (omega (arith, h)))
@@ -42,34 +46,48 @@ word_front n bytes at h =
 abbrev words_with : ℕ → ℕ → ℕ → Words
 words_with sig len start = record { sig = sig; len = len; start = start }
 
-words_front : (n : ℕ) (bytes : List ℕ) → 52 ≤ n → words_of (take n bytes) ≡ words_of bytes
-words_front n bytes h =
-    ap (λ (w : ℕ). words_with w (word (take n bytes) 4) (word (take n bytes) 8)) (word_front n bytes 0 (omega
-    (arith, h)))
-    ∙ ap (λ (w : ℕ). words_with (word bytes 0) w (word (take n bytes) 8)) (word_front n bytes 4 (omega (arith, h)))
-    ∙ ap (λ (w : ℕ). words_with (word bytes 0) (word bytes 4) w) (word_front n bytes 8 (omega (arith, h)))
+words_front : (machine : Machine) (n : ℕ) (bytes : List ℕ) → 52 ≤ n
+    → words_of machine (take n bytes) ≡ words_of machine bytes
+words_front machine n bytes h =
+    let order : ByteOrder = order_of machine in
+    ap (λ (w : ℕ). words_with w (word order (take n bytes) 4) (word order (take n bytes) 8))
+    (word_front order n bytes 0 (omega (arith, h)))
+    ∙ ap (λ (w : ℕ). words_with (word order bytes 0) w (word order (take n bytes) 8))
+    (word_front order n bytes 4 (omega (arith, h)))
+    ∙ ap (λ (w : ℕ). words_with (word order bytes 0) (word order bytes 4) w)
+    (word_front order n bytes 8 (omega (arith, h)))
 
 kept_front : (machine : Machine) (m : ℕ) (kept : List ℕ) → 40 ≤ m
     → dump_header machine (take m kept) ≡ dump_header machine kept
 unfolding dump_header
 kept_front Aligned m kept h =
-    let a : word (take m kept) 0 ≡ word kept 0 = word_front m kept 0 (omega (arith, h)) in
-    let b : word (take m kept) 12 ≡ word kept 12 = word_front m kept 12 (omega (arith, h)) in
-    let c : word (take m kept) 8 ≡ word kept 8 = word_front m kept 8 (omega (arith, h)) in
-    let d : word (take m kept) 16 ≡ word kept 16 = word_front m kept 16 (omega (arith, h)) in
+    let a : word Little (take m kept) 0 ≡ word Little kept 0 = word_front Little m kept 0 (omega (arith, h)) in
+    let b : word Little (take m kept) 12 ≡ word Little kept 12 = word_front Little m kept 12 (omega (arith, h)) in
+    let c : word Little (take m kept) 8 ≡ word Little kept 8 = word_front Little m kept 8 (omega (arith, h)) in
+    let d : word Little (take m kept) 16 ≡ word Little kept 16 = word_front Little m kept 16 (omega (arith, h)) in
     let e : slice_index (take m kept) 24 ≡ slice_index kept 24 = get_or-take m kept 24 0 (omega (arith, h)) in
-    let f : word (take m kept) 28 ≡ word kept 28 = word_front m kept 28 (omega (arith, h)) in
-    let g : word (take m kept) 32 ≡ word kept 32 = word_front m kept 32 (omega (arith, h)) in
+    let f : word Little (take m kept) 28 ≡ word Little kept 28 = word_front Little m kept 28 (omega (arith, h)) in
+    let g : word Little (take m kept) 32 ≡ word Little kept 32 = word_front Little m kept 32 (omega (arith, h)) in
     rw (a, b, c, d, e, f, g) refl
 kept_front X86 m kept h =
-    let a : word (take m kept) 0 ≡ word kept 0 = word_front m kept 0 (omega (arith, h)) in
-    let b : word (take m kept) 8 ≡ word kept 8 = word_front m kept 8 (omega (arith, h)) in
-    let c : word (take m kept) 4 ≡ word kept 4 = word_front m kept 4 (omega (arith, h)) in
-    let d : word (take m kept) 12 ≡ word kept 12 = word_front m kept 12 (omega (arith, h)) in
+    let a : word Little (take m kept) 0 ≡ word Little kept 0 = word_front Little m kept 0 (omega (arith, h)) in
+    let b : word Little (take m kept) 8 ≡ word Little kept 8 = word_front Little m kept 8 (omega (arith, h)) in
+    let c : word Little (take m kept) 4 ≡ word Little kept 4 = word_front Little m kept 4 (omega (arith, h)) in
+    let d : word Little (take m kept) 12 ≡ word Little kept 12 = word_front Little m kept 12 (omega (arith, h)) in
     let e : slice_index (take m kept) 16 ≡ slice_index kept 16 = get_or-take m kept 16 0 (omega (arith, h)) in
-    let f : word (take m kept) 20 ≡ word kept 20 = word_front m kept 20 (omega (arith, h)) in
-    let g : word (take m kept) 24 ≡ word kept 24 = word_front m kept 24 (omega (arith, h)) in
+    let f : word Little (take m kept) 20 ≡ word Little kept 20 = word_front Little m kept 20 (omega (arith, h)) in
+    let g : word Little (take m kept) 24 ≡ word Little kept 24 = word_front Little m kept 24 (omega (arith, h)) in
     rw (a, b, c, d, e, f, g) refl
+kept_front BigEndian m kept h =
+    let a : word Big (take m kept) 0 ≡ word Big kept 0 = word_front Big m kept 0 (omega (arith, h)) in
+    let b : word Big (take m kept) 8 ≡ word Big kept 8 = word_front Big m kept 8 (omega (arith, h)) in
+    let c : word Big (take m kept) 12 ≡ word Big kept 12 = word_front Big m kept 12 (omega (arith, h)) in
+    let d : word Big (take m kept) 16 ≡ word Big kept 16 = word_front Big m kept 16 (omega (arith, h)) in
+    let e : word Big (take m kept) 20 ≡ word Big kept 20 = word_front Big m kept 20 (omega (arith, h)) in
+    let f : slice_index (take m kept) 24 ≡ slice_index kept 24 = get_or-take m kept 24 0 (omega (arith, h)) in
+    let g : word Big (take m kept) 28 ≡ word Big kept 28 = word_front Big m kept 28 (omega (arith, h)) in
+    let i : word Big (take m kept) 32 ≡ word Big kept 32 = word_front Big m kept 32 (omega (arith, h)) in
+    rw (a, b, c, d, e, f, g, i) refl
 
 header_front : (machine : Machine) (n : ℕ) (bytes : List ℕ) → 52 ≤ n
     → dump_header machine (data_of (take n bytes)) ≡ dump_header machine (data_of bytes)
@@ -96,7 +114,7 @@ signed_by machine z Console words header = ring_state z words
 signed_by machine z Ftrace words header = ring_state z words
 
 signed_is : (machine : Machine) (z : Zone) (kind : Kind) (bytes : List ℕ)
-    → signed_state machine z kind bytes ≡ signed_by machine z kind (words_of bytes) (dump_header machine (data_of
+    → signed_state machine z kind bytes ≡ signed_by machine z kind (words_of machine bytes) (dump_header machine (data_of
     bytes))
 signed_is machine z Dump bytes = refl
 signed_is machine z Pmsg bytes = refl
@@ -108,20 +126,20 @@ state_by machine z words header =
     if not (words.sig == sig_of z.kind) then Unsigned else signed_by machine z z.kind words header
 
 state_is : (machine : Machine) (z : Zone) (bytes : List ℕ)
-    → state_of machine z bytes ≡ state_by machine z (words_of bytes) (dump_header machine (data_of bytes))
+    → state_of machine z bytes ≡ state_by machine z (words_of machine bytes) (dump_header machine (data_of bytes))
 unfolding state_of
 state_is machine z bytes =
-    ap (λ (s : State). if not ((words_of bytes).sig == sig_of z.kind) then Unsigned else s)
+    ap (λ (s : State). if not ((words_of machine bytes).sig == sig_of z.kind) then Unsigned else s)
     (signed_is machine z z.kind bytes)
 
 -- two lists of bytes with the same words and header
 pub record SameFront (machine : Machine) (a b : List ℕ) : Type 0 where
-  pub words : words_of a ≡ words_of b
+  pub words : words_of machine a ≡ words_of machine b
   pub header : dump_header machine (data_of a) ≡ dump_header machine (data_of b)
 
 pub front_same : (machine : Machine) (n : ℕ) (bytes : List ℕ) → 52 ≤ n → SameFront machine (take n bytes) bytes
 front_same machine n bytes h = record {
-  words = words_front n bytes h;
+  words = words_front machine n bytes h;
   header = header_front machine n bytes h;
 }
 
@@ -129,7 +147,7 @@ pub state_same : (machine : Machine) (z : Zone) (a b : List ℕ) → SameFront m
     → state_of machine z a ≡ state_of machine z b
 state_same machine z a b s = state_is machine z a
     ∙ ap (λ (w : Words). state_by machine z w (dump_header machine (data_of a))) s.words
-    ∙ ap (λ (h : DumpHeader). state_by machine z (words_of b) h) s.header ∙ sym (state_is machine z b)
+    ∙ ap (λ (h : DumpHeader). state_by machine z (words_of machine b) h) s.header ∙ sym (state_is machine z b)
 
 abbrev with_by : Machine → Zone → Kind → Words → DumpHeader → Part
 with_by machine z Dump words header =
@@ -139,7 +157,7 @@ with_by machine z Console words header = record { zone = z; log = ring_log z wor
 with_by machine z Ftrace words header = record { zone = z; log = ring_log z words; header = None }
 
 with_is : (machine : Machine) (z : Zone) (kind : Kind) (bytes : List ℕ)
-    → part_with machine z kind bytes ≡ with_by machine z kind (words_of bytes) (dump_header machine (data_of bytes))
+    → part_with machine z kind bytes ≡ with_by machine z kind (words_of machine bytes) (dump_header machine (data_of bytes))
 with_is machine z Dump bytes = refl
 with_is machine z Pmsg bytes = refl
 with_is machine z Console bytes = refl
@@ -149,7 +167,7 @@ with_same : (machine : Machine) (z : Zone) (kind : Kind) (a b : List ℕ) → Sa
     → part_with machine z kind a ≡ part_with machine z kind b
 with_same machine z kind a b s = with_is machine z kind a
     ∙ ap (λ (w : Words). with_by machine z kind w (dump_header machine (data_of a))) s.words
-    ∙ ap (λ (h : DumpHeader). with_by machine z kind (words_of b) h) s.header ∙ sym (with_is machine z kind b)
+    ∙ ap (λ (h : DumpHeader). with_by machine z kind (words_of machine b) h) s.header ∙ sym (with_is machine z kind b)
 
 pub part_same : (machine : Machine) (z : Zone) (a b : List ℕ) → SameFront machine a b
     → part_of machine z a ≡ part_of machine z b
@@ -166,7 +184,7 @@ found_by machine Console words header = None
 found_by machine Ftrace words header = None
 
 found_is : (machine : Machine) (kind : Kind) (bytes : List ℕ)
-    → found_fault machine kind bytes ≡ found_by machine kind (words_of bytes) (dump_header machine (data_of bytes))
+    → found_fault machine kind bytes ≡ found_by machine kind (words_of machine bytes) (dump_header machine (data_of bytes))
 found_is machine Dump bytes = refl
 found_is machine Pmsg bytes = refl
 found_is machine Console bytes = refl
@@ -176,7 +194,7 @@ found_same : (machine : Machine) (kind : Kind) (a b : List ℕ) → SameFront ma
     → found_fault machine kind a ≡ found_fault machine kind b
 found_same machine kind a b s = found_is machine kind a
     ∙ ap (λ (w : Words). found_by machine kind w (dump_header machine (data_of a))) s.words
-    ∙ ap (λ (h : DumpHeader). found_by machine kind (words_of b) h) s.header ∙ sym (found_is machine kind b)
+    ∙ ap (λ (h : DumpHeader). found_by machine kind (words_of machine b) h) s.header ∙ sym (found_is machine kind b)
 
 abbrev fault_with : Kind → State → Option KernelFault → Option KernelFault
 fault_with kind Broken found = Some (broken_fault kind)

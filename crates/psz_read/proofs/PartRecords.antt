@@ -1,7 +1,7 @@
 -- A part's spans hold the log of its zone, and so the parts make the records that are listed. For `parts_are_records`.
 use Rattle.std.proofs.Common.{◌≡◌, ℕ, ◌+◌, ◌-◌, ◌<◌, ◌≤◌, ◌⊎◌, inl, inr, refl, sym, ap, ◌∙◌, arith, Bool, true, false}
 use Rattle.std.proofs.Common.{List, [], ◌∷◌, ◌++◌, take, drop, map, append-nil, drop-drop, take-take}
-use Rattle.std.specs.Prelude.{Option, Some, None, slice_range, filter, flat_map, cond, nat_lt, ◌==◌, not, ◌&&◌, ◌||◌}
+use Rattle.std.specs.Prelude.{Some, None, slice_range, filter, flat_map, cond, nat_lt, ◌==◌, not, ◌&&◌, ◌||◌}
 use Rattle.std.specs.Prelude.{if◌then◌else◌}
 use Rattle.std.proofs.lemmas.List.{drop-take, map-append}
 use Rattle.std.proofs.lemmas.Bool.{cases_lt}
@@ -11,7 +11,7 @@ use Rattle.psz_spec.specs.declared.Kind.TheVariants.{Pmsg, Console, Ftrace, Dump
 use Rattle.psz_spec.specs.declared.Zone.{Zone}
 use Rattle.psz_spec.specs.declared.Words.{Words}
 use Rattle.psz_spec.specs.declared.Machine.{Machine}
-use Rattle.psz_spec.specs.declared.Machine.TheVariants.{Aligned, X86}
+use Rattle.psz_spec.specs.declared.Machine.TheVariants.{Aligned, X86, BigEndian}
 use Rattle.psz_spec.specs.declared.Part.{Part}
 use Rattle.psz_spec.specs.declared.State.{State}
 use Rattle.psz_spec.specs.declared.State.TheVariants.{Unsigned, Overtop, NoDump, Erased, Broken, Found}
@@ -24,7 +24,7 @@ use Rattle.psz_spec.specs.Records.{ftrace_listed}
 use Rattle.psz_spec.specs.Records.{plain_listed, dump_content}
 use Rattle.psz_spec.specs.Parts.{ring_log, dump_log, part_with, part_if, part_of, as_list, of_kind, parts_of}
 use Rattle.psz_spec.specs.Parts.{span_bytes}
-use Rattle.psz_spec.specs.Parts.{log_bytes, name_by, content_by, part_content, part_record, records_from}
+use Rattle.psz_spec.specs.Parts.{log_bytes, name_by, part_content, part_record, records_from}
 
 -- ---- ranges
 
@@ -119,6 +119,7 @@ dump_tests size len least some a b =
 some_header : (machine : Machine) → 0 < header_len machine
 some_header Aligned = omega arith
 some_header X86 = omega arith
+some_header BigEndian = omega arith
 
 dump_inside : (machine : Machine) (z : Zone) (words : Words) (kept : List ℕ)
     → dump_state machine z words kept ≡ Found → Inside z (header_len machine) words.len
@@ -138,13 +139,13 @@ signed_found : (machine : Machine) (z : Zone) (bytes : List ℕ) → state_of ma
     → signed_state machine z z.kind bytes ≡ Found
 unfolding state_of
 signed_found machine z bytes h =
-    signed_chain (not ((words_of bytes).sig == sig_of z.kind)) (signed_state machine z z.kind bytes) h
+    signed_chain (not ((words_of machine bytes).sig == sig_of z.kind)) (signed_state machine z z.kind bytes) h
 
 -- ---- logs
 
-ring_bytes : (z : Zone) (image : List ℕ) (words : Words) → words ≡ words_of (zone_bytes z image)
-    → ring_state z words ≡ Found → log_bytes image (ring_log z words) ≡ log_of (zone_bytes z image)
-ring_bytes z image words e h =
+ring_bytes : (machine : Machine) (z : Zone) (image : List ℕ) (words : Words) → words ≡ words_of machine (zone_bytes z image)
+    → ring_state z words ≡ Found → log_bytes image (ring_log z words) ≡ log_of machine (zone_bytes z image)
+ring_bytes machine z image words e h =
     let i : Inside z words.start words.len = ring_inside z words h in
     let bytes : List ℕ = zone_bytes z image in
     let a : span_bytes image (record { at = z.at + (12 + words.start); len = words.len - words.start })
@@ -161,7 +162,7 @@ ring_bytes z image words e h =
     ∙ ap (λ (w : Words). slice_range (drop 12 bytes) w.start w.len ++ take w.start (drop 12 bytes)) e
 
 dump_bytes : (machine : Machine) (z : Zone) (image : List ℕ) (words : Words) (kept : List ℕ)
-    → words ≡ words_of (zone_bytes z image) → dump_state machine z words kept ≡ Found
+    → words ≡ words_of machine (zone_bytes z image) → dump_state machine z words kept ≡ Found
     → log_bytes image (dump_log machine z words) ≡ body_of machine (zone_bytes z image)
 dump_bytes machine z image words kept e h =
     let i : Inside z (header_len machine) words.len = dump_inside machine z words kept h in
@@ -195,10 +196,10 @@ dump_case machine image z Dump Found e s =
       name = name_by Dump z.index (Some (dump_header machine (data_of bytes)));
       logs = dump_content (dump_header machine (data_of bytes)) log ∷ [];
       header = Some (dump_header machine (data_of bytes));
-    } ∷ []) (sym (dump_bytes machine z image (words_of bytes) (data_of bytes) refl (s refl)))
+    } ∷ []) (sym (dump_bytes machine z image (words_of machine bytes) (data_of bytes) refl (s refl)))
     ∙ ap (λ (k : Kind). record {
       name = name_by k z.index (Some (dump_header machine (data_of bytes)));
-      logs = dump_content (dump_header machine (data_of bytes)) (log_bytes image (dump_log machine z (words_of
+      logs = dump_content (dump_header machine (data_of bytes)) (log_bytes image (dump_log machine z (words_of machine
           bytes))) ∷ [];
       header = Some (dump_header machine (data_of bytes));
     } ∷ []) (sym e)
@@ -218,9 +219,9 @@ pmsg_case machine image z Pmsg Erased e s = refl
 pmsg_case machine image z Pmsg Broken e s = refl
 pmsg_case machine image z Pmsg Found e s =
     ap (λ (log : List ℕ). named PmsgName log ∷ [])
-    (sym (ring_bytes z image (words_of (zone_bytes z image)) refl (s refl)))
-    ∙ ap (λ (k : Kind). named (name_by k z.index None) (log_bytes image (ring_log z (words_of (zone_bytes z
-    image)))) ∷ [])
+    (sym (ring_bytes machine z image (words_of machine (zone_bytes z image)) refl (s refl)))
+    ∙ ap (λ (k : Kind). named (name_by k z.index None) (log_bytes image (ring_log z (words_of machine (zone_bytes
+    z image)))) ∷ [])
     (sym e)
 
 console_case : (machine : Machine) (image : List ℕ) (z : Zone) (kind : Kind) (state : State) → z.kind ≡ kind
@@ -238,14 +239,14 @@ console_case machine image z Console Erased e s = refl
 console_case machine image z Console Broken e s = refl
 console_case machine image z Console Found e s =
     ap (λ (log : List ℕ). named ConsoleName log ∷ [])
-    (sym (ring_bytes z image (words_of (zone_bytes z image)) refl (s refl)))
-    ∙ ap (λ (k : Kind). named (name_by k z.index None) (log_bytes image (ring_log z (words_of (zone_bytes z
-    image)))) ∷ [])
+    (sym (ring_bytes machine z image (words_of machine (zone_bytes z image)) refl (s refl)))
+    ∙ ap (λ (k : Kind). named (name_by k z.index None) (log_bytes image (ring_log z (words_of machine (zone_bytes
+    z image)))) ∷ [])
     (sym e)
 
 trace_case : (machine : Machine) (image : List ℕ) (z : Zone) (kind : Kind) (state : State)
     → (state ≡ Found → signed_state machine z kind (zone_bytes z image) ≡ Found)
-    → (if is_of Ftrace kind && is_found state then log_of (zone_bytes z image) ∷ [] else [])
+    → (if is_of Ftrace kind && is_found state then log_of machine (zone_bytes z image) ∷ [] else [])
     ≡ cond (is_of Ftrace kind)
     (map (part_content image) (as_list (part_if state (part_with machine z kind (zone_bytes z image))))) []
 trace_case machine image z Dump state s = refl
@@ -257,7 +258,7 @@ trace_case machine image z Ftrace NoDump s = refl
 trace_case machine image z Ftrace Erased s = refl
 trace_case machine image z Ftrace Broken s = refl
 trace_case machine image z Ftrace Found s =
-    ap (λ (log : List ℕ). log ∷ []) (sym (ring_bytes z image (words_of (zone_bytes z image)) refl (s refl)))
+    ap (λ (log : List ℕ). log ∷ []) (sym (ring_bytes machine z image (words_of machine (zone_bytes z image)) refl (s refl)))
 
 -- ---- all zones
 
@@ -308,7 +309,7 @@ pub traces_are : (machine : Machine) (zones : List Zone) (image : List ℕ)
 unfolding parts_of part_of
 traces_are machine zones image = by_zone (λ (z : Zone). is_of Ftrace z.kind)
     (λ (z : Zone). as_list (part_of machine z (zone_bytes z image))) (part_content image)
-    (λ (z : Zone). if gives machine image Ftrace z then log_of (zone_bytes z image) ∷ [] else [])
+    (λ (z : Zone). if gives machine image Ftrace z then log_of machine (zone_bytes z image) ∷ [] else [])
     (λ z. trace_case machine image z z.kind (state_of machine z (zone_bytes z image))
     (signed_found machine z (zone_bytes z image))) zones
 

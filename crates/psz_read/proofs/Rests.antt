@@ -1,7 +1,7 @@
 -- One step of a loop over zones, blocks or marks: what is left is that at the index, and the rest. For the loops of
--- `parts_in`, `cursor_of`, `marks_in`, `step_after`, `rings_len` and `machine_in`.
-use Rattle.std.proofs.Common.{◌≡◌, ℕ, zero, suc, ◌+◌, ◌-◌, ◌*◌, ◌/◌, ◌<◌, ◌≤◌, refl, sym, ap, ◌∙◌, arith}
-use Rattle.std.proofs.Common.{List, [], ◌∷◌, ◌++◌, length, Bool, true, false, take, drop, get_or, append-nil}
+-- `parts_in`, `cursor_of`, `order_in`, `marks_in`, `step_after`, `rings_len` and `little_machine`.
+use Rattle.std.proofs.Common.{◌≡◌, ℕ, zero, suc, ◌+◌, ◌-◌, ◌*◌, ◌<◌, ◌≤◌, refl, sym, ap, ◌∙◌, arith}
+use Rattle.std.proofs.Common.{List, [], ◌∷◌, ◌++◌, length, true, false, take, drop, get_or, append-nil}
 use Rattle.std.proofs.Common.{append_assoc}
 use Rattle.std.specs.Prelude.{Option, Some, None, slice_get}
 use Rattle.std.specs.List.{fold}
@@ -10,15 +10,17 @@ use Rattle.psz_spec.specs.declared.Kind.{Kind}
 use Rattle.psz_spec.specs.declared.Kind.TheVariants.{Dump}
 use Rattle.psz_spec.specs.declared.Zone.{Zone}
 use Rattle.psz_spec.specs.declared.Machine.{Machine}
+use Rattle.psz_spec.specs.declared.Machine.TheVariants.{Aligned}
+use Rattle.zone_spec.specs.declared.params.ByteOrder.{ByteOrder}
+use Rattle.zone_spec.specs.declared.params.ByteOrder.TheVariants.{Little}
 use Rattle.psz_spec.specs.declared.Part.{Part}
 use Rattle.psz_spec.specs.declared.Cursor.{Cursor}
 use Rattle.psz_spec.specs.declared.Mark.{Mark}
-use Rattle.psz_spec.specs.States.{zone_bytes, data_of}
-use Rattle.psz_spec.specs.Parts.{part_of, parts_of, as_list}
+use Rattle.psz_spec.specs.States.{data_of}
+use Rattle.psz_spec.specs.Parts.{parts_of, as_list}
 use Rattle.psz_spec.specs.Records.{is_of}
-use Rattle.psz_spec.specs.Cursor.{with_zone}
-use Rattle.psz_spec.specs.Marks.{mark_at, as_marks, marks_from, gcd, step_after, rings_of, machine_shown, machine_or}
-use Rattle.psz_spec.specs.Marks.{machine_in}
+use Rattle.psz_spec.specs.Marks.{mark_at, order_at, order_or, order_from, as_marks, marks_from, gcd, step_after}
+use Rattle.psz_spec.specs.Marks.{rings_of, machine_shown, machine_or, little_machine}
 use Rattle.psz_read.specs.Rests.{part_at}
 
 -- ---- zones
@@ -69,32 +71,62 @@ fold_end f c zones i past = ap (λ (zs : List Zone). fold f c zs) (drop_all i zo
 
 -- ---- blocks
 
-pub marks_step : (n i : ℕ) (image : List ℕ) → i < n
-    → marks_from (n - i) (i * 512) image
-    ≡ as_marks (mark_at (length image) (i * 512) (drop (i * 512) image)) ++ marks_from (n - (i + 1)) ((i + 1) * 512)
+pub marks_step : (order : ByteOrder) (n i : ℕ) (image : List ℕ) → i < n
+    → marks_from order (n - i) (i * 512) image
+    ≡ as_marks (mark_at order (length image) (i * 512) (drop (i * 512) image)) ++ marks_from order (n - (i + 1)) ((i + 1) * 512)
     image
 unfolding marks_from
-marks_step n i image h =
-    ap (λ (m : ℕ). marks_from m (i * 512) image) (let e : n - i ≡ suc (n - (i + 1)) = omega (arith, h) in e)
-    ∙ ap (λ (at : ℕ). as_marks (mark_at (length image) (i * 512) (drop (i * 512) image)) ++ marks_from (n - (i + 1))
+marks_step order n i image h =
+    ap (λ (m : ℕ). marks_from order m (i * 512) image) (let e : n - i ≡ suc (n - (i + 1)) = omega (arith, h) in e)
+    ∙ ap (λ (at : ℕ). as_marks (mark_at order (length image) (i * 512) (drop (i * 512) image)) ++ marks_from order (n - (i + 1))
     at image)
     (let e : i * 512 + 512 ≡ (i + 1) * 512 = omega arith in e)
 
-pub marks_more : (n i : ℕ) (image : List ℕ) (marks : List Mark) (m : Option Mark) (whole : List Mark) → i < n
-    → m ≡ mark_at (length image) (i * 512) (drop (i * 512) image)
-    → marks ++ marks_from (n - i) (i * 512) image ≡ whole
-    → (marks ++ as_marks m) ++ marks_from (n - (i + 1)) ((i + 1) * 512) image ≡ whole
-marks_more n i image marks m whole lt e h =
-    append_assoc marks (as_marks m) (marks_from (n - (i + 1)) ((i + 1) * 512) image)
-    ∙ ap (λ (q : Option Mark). marks ++ (as_marks q ++ marks_from (n - (i + 1)) ((i + 1) * 512) image)) e
-    ∙ ap (λ (ms : List Mark). marks ++ ms) (sym (marks_step n i image lt)) ∙ h
+pub marks_more : (order : ByteOrder) (n i : ℕ) (image : List ℕ) (marks : List Mark) (m : Option Mark) (whole : List Mark) → i < n
+    → m ≡ mark_at order (length image) (i * 512) (drop (i * 512) image)
+    → marks ++ marks_from order (n - i) (i * 512) image ≡ whole
+    → (marks ++ as_marks m) ++ marks_from order (n - (i + 1)) ((i + 1) * 512) image ≡ whole
+marks_more order n i image marks m whole lt e h =
+    append_assoc marks (as_marks m) (marks_from order (n - (i + 1)) ((i + 1) * 512) image)
+    ∙ ap (λ (q : Option Mark). marks ++ (as_marks q ++ marks_from order (n - (i + 1)) ((i + 1) * 512) image)) e
+    ∙ ap (λ (ms : List Mark). marks ++ ms) (sym (marks_step order n i image lt)) ∙ h
 
-pub marks_end : (n i : ℕ) (image : List ℕ) (marks whole : List Mark) → n ≤ i
-    → marks ++ marks_from (n - i) (i * 512) image ≡ whole → marks ≡ whole
+pub marks_end : (order : ByteOrder) (n i : ℕ) (image : List ℕ) (marks whole : List Mark) → n ≤ i
+    → marks ++ marks_from order (n - i) (i * 512) image ≡ whole → marks ≡ whole
 unfolding marks_from
-marks_end n i image marks whole past h =
+marks_end order n i image marks whole past h =
     sym (append-nil marks)
-    ∙ ap (λ (k : ℕ). marks ++ marks_from k (i * 512) image) (let e : 0 ≡ n - i = omega (arith, past) in e) ∙ h
+    ∙ ap (λ (k : ℕ). marks ++ marks_from order k (i * 512) image) (let e : 0 ≡ n - i = omega (arith, past) in e) ∙ h
+
+abbrev order_here : ℕ → List ℕ → Option ByteOrder
+order_here i image = order_at (length image) (i * 512) (drop (i * 512) image)
+
+order_step : (n i : ℕ) (image : List ℕ) → i < n
+    → order_from (n - i) (i * 512) image
+    ≡ order_or (order_here i image) (order_from (n - (i + 1)) ((i + 1) * 512) image)
+unfolding order_from
+order_step n i image h =
+    ap (λ (m : ℕ). order_from m (i * 512) image) (let e : n - i ≡ suc (n - (i + 1)) = omega (arith, h) in e)
+    ∙ ap (λ (at : ℕ). order_or (order_here i image) (order_from (n - (i + 1)) at image))
+    (let e : i * 512 + 512 ≡ (i + 1) * 512 = omega arith in e)
+
+pub order_own : (n i : ℕ) (image : List ℕ) (order whole : ByteOrder) → i < n → Some order ≡ order_here i image
+    → order_from (n - i) (i * 512) image ≡ whole → order ≡ whole
+order_own n i image order whole h e f =
+    ap (λ (o : Option ByteOrder). order_or o (order_from (n - (i + 1)) ((i + 1) * 512) image)) e
+    ∙ sym (order_step n i image h) ∙ f
+
+pub order_other : (n i : ℕ) (image : List ℕ) (whole : ByteOrder) → i < n → None ≡ order_here i image
+    → order_from (n - i) (i * 512) image ≡ whole → order_from (n - (i + 1)) ((i + 1) * 512) image ≡ whole
+order_other n i image whole h e f =
+    ap (λ (o : Option ByteOrder). order_or o (order_from (n - (i + 1)) ((i + 1) * 512) image)) e
+    ∙ sym (order_step n i image h) ∙ f
+
+pub order_end : (n i : ℕ) (image : List ℕ) (whole : ByteOrder) → n ≤ i
+    → order_from (n - i) (i * 512) image ≡ whole → Little ≡ whole
+unfolding order_from
+order_end n i image whole past f =
+    ap (λ (k : ℕ). order_from k (i * 512) image) (let e : 0 ≡ n - i = omega (arith, past) in e) ∙ f
 
 -- ---- marks
 
@@ -149,16 +181,16 @@ rings_last ms i past e = sym (append-nil (take i ms))
 
 pub machine_own : (image : List ℕ) (ms : List Mark) (i : ℕ) (d : Mark) → i < length ms
     → is_of Dump (get_or ms i d).kind ≡ true
-    → machine_in image (drop i ms)
-    ≡ machine_or (machine_shown (data_of (drop (get_or ms i d).at image))) (machine_in image (drop (i + 1) ms))
-unfolding machine_in
-machine_own image ms i d lt h = ap (machine_in image) (drop_more ms i d lt) ∙ rw h refl
+    → little_machine image (drop i ms)
+    ≡ machine_or (machine_shown (data_of (drop (get_or ms i d).at image))) (little_machine image (drop (i + 1) ms))
+unfolding little_machine
+machine_own image ms i d lt h = ap (little_machine image) (drop_more ms i d lt) ∙ rw h refl
 
 pub machine_other : (image : List ℕ) (ms : List Mark) (i : ℕ) (d : Mark) → i < length ms
-    → is_of Dump (get_or ms i d).kind ≡ false → machine_in image (drop i ms) ≡ machine_in image (drop (i + 1) ms)
-unfolding machine_in
-machine_other image ms i d lt h = ap (machine_in image) (drop_more ms i d lt) ∙ rw h refl
+    → is_of Dump (get_or ms i d).kind ≡ false → little_machine image (drop i ms) ≡ little_machine image (drop (i + 1) ms)
+unfolding little_machine
+machine_other image ms i d lt h = ap (little_machine image) (drop_more ms i d lt) ∙ rw h refl
 
-pub machine_end : (image : List ℕ) (ms : List Mark) (i : ℕ) → length ms ≤ i → machine_in image (drop i ms) ≡ None
-unfolding machine_in
-machine_end image ms i past = ap (machine_in image) (drop_all i ms past)
+pub machine_end : (image : List ℕ) (ms : List Mark) (i : ℕ) → length ms ≤ i → little_machine image (drop i ms) ≡ Aligned
+unfolding little_machine
+machine_end image ms i past = ap (little_machine image) (drop_all i ms past)

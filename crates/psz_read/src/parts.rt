@@ -45,7 +45,7 @@ fn dump_log(machine: Machine, zone: &Zone, words: Words) -> Log
 fn part_with(machine: Machine, zone: &Zone, bytes: &[u8]) -> Part
     ensures { result ≡ with_of machine zone.now zone.now.kind bytes.now }
 {
-    let words = words_of(bytes);
+    let words = words_of(machine, bytes);
     match zone.kind {
         Kind::Dump => Part {
             zone: *zone,

@@ -67,7 +67,7 @@ fn ring_state(zone: &Zone, words: Words) -> State
 pub fn state_of(machine: Machine, zone: &Zone, bytes: &[u8]) -> State
     ensures { result ≡ zone_state machine zone.now bytes.now }
 {
-    let words = words_of(bytes);
+    let words = words_of(machine, bytes);
     if words.sig != sig_of(zone.kind) {
         return State::Unsigned;
     }
@@ -92,7 +92,7 @@ fn found_fault(machine: Machine, kind: Kind, bytes: &[u8]) -> Option<KernelFault
     match kind {
         Kind::Dump => {
             let packed = dump_header(machine, data_of(bytes)).packed;
-            if packed && words_of(bytes).len == header_len(machine) {
+            if packed && words_of(machine, bytes).len == header_len(machine) {
                 Some(KernelFault::EmptyPacked)
             } else {
                 None

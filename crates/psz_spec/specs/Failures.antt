@@ -21,7 +21,7 @@ broken_fault Ftrace = StartBeyond
 -- a packed dump whose length is that of its header
 abbrev pub found_fault : Machine → Kind → List ℕ → Option KernelFault
 found_fault machine Dump bytes =
-    if (dump_header machine (data_of bytes)).packed && ((words_of bytes).len == header_len machine)
+    if (dump_header machine (data_of bytes)).packed && ((words_of machine bytes).len == header_len machine)
     then Some EmptyPacked else None
 found_fault machine Pmsg bytes = None
 found_fault machine Console bytes = None

@@ -1,12 +1,14 @@
 -- The sizes that the bytes of a storage show. Nothing in it names them, but headers stand at multiples of 512
-use Rattle.std.specs.Prelude.{ℕ, zero, suc, ◌+◌, ◌-◌, ◌*◌, ◌/◌, ◌%◌, ◌==◌, nat_lt, nat_le, Bool, true, false, not}
-use Rattle.std.specs.Prelude.{◌&&◌, ◌||◌, if◌then◌else◌, List, [], ◌∷◌, ◌++◌, length, drop, find}
-use Rattle.std.specs.Prelude.{Option, Some, None}
+use Rattle.std.specs.Prelude.{ℕ, zero, suc, ◌+◌, ◌-◌, ◌/◌, ◌%◌, ◌==◌, nat_lt, nat_le, Bool, true, false}
+use Rattle.std.specs.Prelude.{◌&&◌, if◌then◌else◌, List, [], ◌∷◌, ◌++◌, length, drop, find}
+use Rattle.std.specs.Prelude.{Option, Some, None, is_some}
+use Rattle.zone_spec.specs.declared.params.ByteOrder.{ByteOrder}
+use Rattle.zone_spec.specs.declared.params.ByteOrder.TheVariants.{Little, Big}
 use Rattle.psz_spec.specs.declared.Kind.{Kind}
 use Rattle.psz_spec.specs.declared.Kind.TheVariants.{Pmsg, Console, Ftrace, Dump}
 use Rattle.psz_spec.specs.declared.Mark.{Mark}
 use Rattle.psz_spec.specs.declared.Machine.{Machine}
-use Rattle.psz_spec.specs.declared.Machine.TheVariants.{Aligned, X86}
+use Rattle.psz_spec.specs.declared.Machine.TheVariants.{Aligned, X86, BigEndian}
 use Rattle.psz_spec.specs.declared.Sizes.{Sizes}
 use Rattle.psz_spec.specs.declared.Shown.{Shown}
 use Rattle.psz_spec.specs.Headers.{word, sig_of, dump_magic, dump_header}
@@ -24,35 +26,55 @@ kind_of sig =
     else None)))
 
 -- a dump has its magic number behind the zone's header
-abbrev pub is_whole : Kind → List ℕ → Bool
-is_whole Dump bytes = word bytes 12 == dump_magic
-is_whole Pmsg bytes = true
-is_whole Console bytes = true
-is_whole Ftrace bytes = true
+abbrev pub is_whole : ByteOrder → Kind → List ℕ → Bool
+is_whole order Dump bytes = word order bytes 12 == dump_magic
+is_whole order Pmsg bytes = true
+is_whole order Console bytes = true
+is_whole order Ftrace bytes = true
 
-abbrev pub mark_by : Option Kind → ℕ → ℕ → List ℕ → Option Mark
-mark_by None total at bytes = None
-mark_by (Some kind) total at bytes =
-    if nat_le (at + 12 + word bytes 4) total && is_whole kind bytes
-    then Some (record { kind = kind; at = at; len = word bytes 4 }) else None
+abbrev pub mark_by : ByteOrder → Option Kind → ℕ → ℕ → List ℕ → Option Mark
+mark_by order None total at bytes = None
+mark_by order (Some kind) total at bytes =
+    if nat_le (at + 12 + word order bytes 4) total && is_whole order kind bytes
+    then Some (record { kind = kind; at = at; len = word order bytes 4 }) else None
 
 -- the mark at a place of a storage of so many bytes, by the bytes from there on: a signature, a length that fits, and in
--- a dump the magic number
-unfoldable pub mark_at : ℕ → ℕ → List ℕ → Option Mark
-mark_at total at bytes = mark_by (kind_of (word bytes 0)) total at bytes
+-- a dump the magic number, all in this order of bytes
+unfoldable pub mark_at : ByteOrder → ℕ → ℕ → List ℕ → Option Mark
+mark_at order total at bytes = mark_by order (kind_of (word order bytes 0)) total at bytes
+
+-- the order in which a mark stands at a place
+unfoldable pub order_at : ℕ → ℕ → List ℕ → Option ByteOrder
+order_at total at bytes =
+    if is_some (mark_at Little total at bytes) then Some Little
+    else (if is_some (mark_at Big total at bytes) then Some Big else None)
+
+abbrev pub order_or : Option ByteOrder → ByteOrder → ByteOrder
+order_or None others = others
+order_or (Some order) others = order
+
+-- the order of the first mark at so many places, 512 bytes apart; without one it is little
+unfoldable pub order_from : ℕ → ℕ → List ℕ → ByteOrder
+order_from zero at image = Little
+order_from (suc n) at image =
+    order_or (order_at (length image) at (drop at image)) (order_from n (at + 512) image)
+
+-- the order of a storage's bytes: the first mark in it decides
+abbrev pub order_in : List ℕ → ByteOrder
+order_in image = order_from (length image / 512) 0 image
 
 abbrev pub as_marks : Option Mark → List Mark
 as_marks None = []
 as_marks (Some mark) = mark ∷ []
 
--- the marks at so many places, 512 bytes apart
-unfoldable pub marks_from : ℕ → ℕ → List ℕ → List Mark
-marks_from zero at image = []
-marks_from (suc n) at image =
-    as_marks (mark_at (length image) at (drop at image)) ++ marks_from n (at + 512) image
+-- the marks of an order at so many places, 512 bytes apart
+unfoldable pub marks_from : ByteOrder → ℕ → ℕ → List ℕ → List Mark
+marks_from order zero at image = []
+marks_from order (suc n) at image =
+    as_marks (mark_at order (length image) at (drop at image)) ++ marks_from order n (at + 512) image
 
-abbrev pub marks_in : List ℕ → List Mark
-marks_in image = marks_from (length image / 512) 0 image
+abbrev pub marks_in : ByteOrder → List ℕ → List Mark
+marks_in order image = marks_from order (length image / 512) 0 image
 
 -- ---- distances
 
@@ -148,13 +170,14 @@ shown_sizes total marks = shown_by (first_of Dump marks) total (step_of Dump mar
 abbrev pub packed_place : Machine → ℕ
 packed_place Aligned = 24
 packed_place X86 = 16
+packed_place BigEndian = 24
 
--- whether a dump's header reads as one of a machine: a reason of 1 to 4, a flag of 0 or 1 with three bytes of padding,
+-- whether a dump's header reads as one of a machine: a reason of 1 to 4, a flag of 0 or 1 before three bytes of padding,
 -- and nanoseconds below a second
 abbrev pub reads_as : Machine → List ℕ → Bool
 reads_as machine kept =
     (nat_le 1 (dump_header machine kept).reason && nat_le (dump_header machine kept).reason 4)
-    && (nat_le (word kept (packed_place machine)) 1 && nat_lt (dump_header machine kept).nanos 1_000_000_000)
+    && (nat_le (word Little kept (packed_place machine)) 1 && nat_lt (dump_header machine kept).nanos 1_000_000_000)
 
 abbrev pub machine_if : Bool → Bool → Option Machine
 machine_if true false = Some Aligned
@@ -162,17 +185,23 @@ machine_if false true = Some X86
 machine_if true true = None
 machine_if false false = None
 
--- the machine that the data of a dump zone shows, or None where both or none fit
+-- the little-endian machine that the data of a dump zone shows, or None where both or none fit
 unfoldable pub machine_shown : List ℕ → Option Machine
 machine_shown kept = machine_if (reads_as Aligned kept) (reads_as X86 kept)
 
-abbrev pub machine_or : Option Machine → Option Machine → Option Machine
-machine_or (Some machine) others = Some machine
+abbrev pub machine_or : Option Machine → Machine → Machine
+machine_or (Some machine) others = machine
 machine_or None others = others
 
--- the machine of a storage: the first dump that shows one decides
-unfoldable pub machine_in : List ℕ → List Mark → Option Machine
-machine_in image [] = None
-machine_in image (m ∷ ms) =
-    if is_of Dump m.kind then machine_or (machine_shown (data_of (drop m.at image))) (machine_in image ms)
-    else machine_in image ms
+-- the machine of little-endian marks: the first dump that shows one decides; where none does, it is taken for one of 64
+-- bits
+unfoldable pub little_machine : List ℕ → List Mark → Machine
+little_machine image [] = Aligned
+little_machine image (m ∷ ms) =
+    if is_of Dump m.kind then machine_or (machine_shown (data_of (drop m.at image))) (little_machine image ms)
+    else little_machine image ms
+
+-- the machine of a storage, by its order of bytes and the marks in it
+abbrev pub machine_in : ByteOrder → List ℕ → List Mark → Machine
+machine_in Little image marks = little_machine image marks
+machine_in Big image marks = BigEndian

@@ -17,7 +17,7 @@ use Rattle.psz_spec.specs.declared.Name.TheVariants.{Dump as DumpName, Ftrace as
 use Rattle.psz_spec.specs.declared.Name.TheVariants.{Console as ConsoleName}
 use Rattle.psz_spec.specs.Headers.{words_of, header_len, dump_header}
 use Rattle.psz_spec.specs.States.{zone_bytes, data_of, state_of}
-use Rattle.psz_spec.specs.Records.{Listed, dump_content, dump_listed, plain_listed, ftrace_listed, is_of}
+use Rattle.psz_spec.specs.Records.{Listed, dump_content, ftrace_listed, is_of}
 
 -- of a ring first what stands from its start on, then what stands before
 abbrev pub ring_log : Zone → Words → Log
@@ -36,12 +36,12 @@ dump_log machine z words = record {
 abbrev pub part_with : Machine → Zone → Kind → List ℕ → Part
 part_with machine z Dump bytes = record {
   zone = z;
-  log = dump_log machine z (words_of bytes);
+  log = dump_log machine z (words_of machine bytes);
   header = Some (dump_header machine (data_of bytes));
 }
-part_with machine z Pmsg bytes = record { zone = z; log = ring_log z (words_of bytes); header = None }
-part_with machine z Console bytes = record { zone = z; log = ring_log z (words_of bytes); header = None }
-part_with machine z Ftrace bytes = record { zone = z; log = ring_log z (words_of bytes); header = None }
+part_with machine z Pmsg bytes = record { zone = z; log = ring_log z (words_of machine bytes); header = None }
+part_with machine z Console bytes = record { zone = z; log = ring_log z (words_of machine bytes); header = None }
+part_with machine z Ftrace bytes = record { zone = z; log = ring_log z (words_of machine bytes); header = None }
 
 abbrev pub part_if : State → Part → Option Part
 part_if Found part = Some part

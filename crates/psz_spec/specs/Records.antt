@@ -60,8 +60,8 @@ plain_listed name log = record { name = name; logs = log ∷ []; header = None }
 abbrev pub made_by : Machine → Zone → Kind → List ℕ → List Listed
 made_by machine z Dump bytes =
     dump_listed z.index (dump_header machine (data_of bytes)) (content_of machine bytes) ∷ []
-made_by machine z Pmsg bytes = plain_listed PmsgName (log_of bytes) ∷ []
-made_by machine z Console bytes = plain_listed ConsoleName (log_of bytes) ∷ []
+made_by machine z Pmsg bytes = plain_listed PmsgName (log_of machine bytes) ∷ []
+made_by machine z Console bytes = plain_listed ConsoleName (log_of machine bytes) ∷ []
 made_by machine z Ftrace bytes = []
 
 abbrev pub is_found : State → Bool
@@ -88,7 +88,7 @@ records_of machine image kind zones =
 -- the logs of the ftrace zones
 abbrev pub traces_of : Machine → List ℕ → List Zone → List (List ℕ)
 traces_of machine image zones =
-    flat_map (λ (z : Zone). if gives machine image Ftrace z then log_of (zone_bytes z image) ∷ [] else []) zones
+    flat_map (λ (z : Zone). if gives machine image Ftrace z then log_of machine (zone_bytes z image) ∷ [] else []) zones
 
 abbrev pub ftrace_listed : List (List ℕ) → List Listed
 ftrace_listed [] = []

@@ -1,6 +1,6 @@
 //! Prints what a storage holds that the kernel's pstore_zone wrote. Its input is storages, each after eight words of
 //! four bytes, little endian: how many bytes follow, the sizes (total, pmsg, console, ftrace, dump, processors), and the
-//! machine: 0 aligned, 1 x86 of 32 bits. Of each storage it prints the sizes and the machine that its bytes show, and
+//! machine: 0 aligned, 1 x86 of 32 bits, 2 big-endian. Of each storage it prints the sizes and the machine that its bytes show, and
 //! then the first fault of the sizes, or a line of each zone, of each part and of the next dump.
 #![tactic(auto)]
 
@@ -11,8 +11,8 @@ use arrayvec::ArrayString;
 use md5::{Digest, Md5};
 use psz_read::{
     Kind, Machine, Part, Sizes, Span, Zone, cursor_of, kernel_fault, machine_in, marks_in,
-    name_text, next_zone, part_name, parts_in, shown_sizes, size_fault, state_of, total_line,
-    zone_at, zone_bytes, zone_count,
+    name_text, next_zone, order_in, part_name, parts_in, shown_sizes, size_fault, state_of,
+    total_line, zone_at, zone_bytes, zone_count,
 };
 use std::alloc::{AllocError, Global};
 use std::io;
@@ -101,11 +101,10 @@ fn show_parts<R: Print + AllocGlobal>(
 fn show_shown<R: Print + AllocGlobal>(rt: &R, image: &[u8]) -> io::Result<()>
     requires { length image.now < 2 ^ 32 }
 {
-    let marks = marks_in(rt.alloc(), image)?;
-    match machine_in(image, &marks) {
-        Some(machine) => println!(rt; "machine {machine:?}")?,
-        None => println!(rt; "machine")?,
-    }
+    let order = order_in(image);
+    let marks = marks_in(rt.alloc(), order, image)?;
+    let machine = machine_in(order, image, &marks);
+    println!(rt; "machine {machine:?}")?;
     match shown_sizes(image.len() as u32, &marks) {
         Some(shown) => {
             let (s, tied) = (shown.sizes, shown.tied);
@@ -160,16 +159,20 @@ fn sizes_of(words: &[u8]) -> Sizes
     }
 }
 
+fn machine_of(number: u32) -> Machine {
+    match number {
+        0 => Machine::Aligned,
+        1 => Machine::X86,
+        _ => Machine::BigEndian,
+    }
+}
+
 fn show_all<R: Print + AllocGlobal>(rt: &R, input: &[u8]) -> io::Result<()> {
     let mut rest = input;
     while rest.len() >= 32 {
         let len = word(rest, 0) as usize;
         let sizes = sizes_of(rest);
-        let machine = if word(rest, 7) == 0 {
-            Machine::Aligned
-        } else {
-            Machine::X86
-        };
+        let machine = machine_of(word(rest, 7));
         rest = &rest[32..];
         if rest.len() < len {
             return Ok(());

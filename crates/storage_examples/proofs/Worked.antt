@@ -5,10 +5,13 @@ use Rattle.psz_spec.specs.Headers.{word, dump_header}
 use Rattle.psz_spec.specs.States.{state_of}
 use Rattle.psz_spec.specs.Records.{listed_in, total_line}
 use Rattle.psz_spec.specs.Failures.{kernel_fault}
-use Rattle.psz_examples.specs.Listings.{storage, storage_zones, all_kinds_storage, all_kinds_zones}
+use Rattle.psz_examples.specs.Listings.{storage, storage_zones, all_kinds_storage, all_kinds_zones, big_storage}
+use Rattle.psz_examples.specs.Listings.{big_zones}
 use Rattle.storage_examples.specs.Records.{HeldRow, AllHeldRow, TimeRow, NoTimeRow, EarlyRow, ErasedRow, FoundRow}
 use Rattle.storage_examples.specs.Told.{SizesRow, CpusRow, TiedRow, NotTiedRow, OopsesRow, FaultRow, StartRow}
-use Rattle.storage_examples.specs.Told.{FaultLinesRow, HasDumpRow, NoPanicRow}
+use Rattle.storage_examples.specs.Told.{FaultLinesRow, HasDumpRow, NoPanicRow, BigSizesRow, BigHasDumpRow}
+use Rattle.storage_examples.specs.Told.{OtherOrderRow}
+use Rattle.storage_examples.specs.Records.{BigHeldRow, BigFoundRow, BigZoneRow}
 
 pub held : HeldRow
 unfolding digits listed_in storage storage_zones word dump_header state_of total_line
@@ -71,3 +74,26 @@ has_dump = refl
 pub no_panic : NoPanicRow
 unfolding storage storage_zones word dump_header state_of
 no_panic = refl
+
+pub big_held : BigHeldRow
+unfolding digits listed_in big_storage big_zones word dump_header state_of total_line
+big_held = refl
+
+pub big_found : BigFoundRow
+unfolding big_storage word dump_header state_of
+big_found = refl
+
+pub big_zone : BigZoneRow
+big_zone = refl
+
+pub big_sizes : BigSizesRow
+unfolding digits
+big_sizes = refl
+
+pub big_has_dump : BigHasDumpRow
+unfolding big_storage big_zones word dump_header state_of
+big_has_dump = refl
+
+pub other_order : OtherOrderRow
+unfolding big_storage big_zones word dump_header state_of
+other_order = refl

@@ -1,17 +1,20 @@
 -- The records of small storages, and how their zones read
 use Rattle.std.specs.Prelude.{◌≡◌, true, false, List, [], ◌∷◌, map, codes, Some, None}
 use Rattle.psz_spec.specs.declared.Kind.TheVariants.{Dump, Pmsg}
-use Rattle.psz_spec.specs.declared.Machine.TheVariants.{Aligned}
+use Rattle.psz_spec.specs.declared.Machine.TheVariants.{Aligned, BigEndian}
 use Rattle.psz_spec.specs.declared.DumpHeader.{DumpHeader}
 use Rattle.psz_spec.specs.Records.{listed_in}
 use Rattle.psz_spec.specs.States.{zone_bytes}
 use Rattle.zone_spec.specs.declared.Name.TheVariants.{Dump as DumpName, Ftrace as FtraceName, Pmsg as PmsgName}
 use Rattle.zone_spec.specs.declared.Name.TheVariants.{Console as ConsoleName}
 use Rattle.zone_spec.specs.declared.State.TheVariants.{Empty, Found}
-use Rattle.storage_spec.specs.Zones.{reading_of}
+use Rattle.zone_spec.specs.declared.Kind.TheVariants.{Dump as DumpKind}
+use Rattle.zone_spec.specs.declared.params.ByteOrder.TheVariants.{Big}
+use Rattle.storage_spec.specs.Zones.{zone_of, reading_of}
 use Rattle.storage_spec.specs.Records.{time_of, held_of}
 use Rattle.psz_examples.specs.Layouts.{zone}
-use Rattle.psz_examples.specs.Listings.{storage, storage_zones, all_kinds_storage, all_kinds_zones}
+use Rattle.psz_examples.specs.Listings.{storage, storage_zones, all_kinds_storage, all_kinds_zones, big_storage}
+use Rattle.psz_examples.specs.Listings.{big_zones}
 
 -- a pmsg, a dump of 60 s and 7 ns, an erased dump, and a packed one of 90 s
 abbrev pub HeldRow : Type 0
@@ -90,4 +93,47 @@ FoundRow = reading_of Aligned (zone Pmsg 0 0 16) (zone_bytes (zone Pmsg 0 0 16) 
       log = [];
       corrected = 0;
       bad = 0;
+    }
+
+-- ---- of a big-endian machine
+
+abbrev pub BigHeldRow : Type 0
+BigHeldRow = map held_of (listed_in BigEndian big_zones big_storage)
+    ≡ record {
+      name = DumpName 0 false;
+      time = Some (record { secs = 60; micros = 0 });
+      content = codes "Oops: Total 3 times\ntext";
+      notice = [];
+    }
+    ∷ record {
+      name = DumpName 1 true;
+      time = Some (record { secs = 90; micros = 0 });
+      content = codes "zip";
+      notice = [];
+    }
+    ∷ record { name = PmsgName; time = None; content = codes "defghabc"; notice = [] }
+    ∷ record { name = ConsoleName; time = None; content = codes "abc"; notice = [] } ∷ []
+
+abbrev pub BigFoundRow : Type 0
+BigFoundRow = reading_of BigEndian (zone Pmsg 0 0 20) (zone_bytes (zone Pmsg 0 0 20) big_storage)
+    ≡ record {
+      state = Found;
+      words = record { sig = 0x43474243; start = 3; size = 8 };
+      log = [];
+      corrected = 0;
+      bad = 0;
+    }
+
+abbrev pub BigZoneRow : Type 0
+BigZoneRow = zone_of BigEndian (zone Dump 1 96 56)
+    ≡ record {
+      name = record { kind = DumpKind; index = 1 };
+      at = 96;
+      size = 56;
+      cap = 44;
+      blocks = 0;
+      parity = 0;
+      sig = 0x43474244;
+      block = 0;
+      byte_order = Big;
     }

@@ -1,17 +1,24 @@
 -- The lines on storages
 use Rattle.std.specs.Prelude.{◌≡◌, true, false, [], ◌∷◌, ◌++◌, codes, slice_set, Some}
 use Rattle.psz_spec.specs.declared.Kind.TheVariants.{Dump, Console}
-use Rattle.psz_spec.specs.declared.Machine.TheVariants.{Aligned}
+use Rattle.psz_spec.specs.declared.Machine.TheVariants.{Aligned, BigEndian}
+use Rattle.zone_spec.specs.declared.params.ByteOrder.TheVariants.{Little, Big}
 use Rattle.psz_spec.specs.declared.KernelFault.TheVariants.{ShortDump, StartBeyond}
 use Rattle.storage_spec.specs.Told.{found_line, size_words, tied_line, oopses_line, fault_line, fault_lines, has_dump}
 use Rattle.storage_spec.specs.Told.{has_panic}
 use Rattle.psz_examples.specs.Layouts.{zone}
-use Rattle.psz_examples.specs.Listings.{storage, storage_zones}
+use Rattle.psz_examples.specs.Listings.{storage, storage_zones, big_storage, big_zones}
 
 abbrev pub SizesRow : Type 0
 SizesRow = found_line (codes "disk")
-    (record { total = 16384; pmsg = 0; console = 0; ftrace = 0; dump = 4096; cpus = 1 })
+    (record { total = 16384; pmsg = 0; console = 0; ftrace = 0; dump = 4096; cpus = 1 }) Little
     ≡ codes "disk: 16384 bytes; a storage of pstore_zone: kmsg_size=4096 console_size=0 ftrace_size=0 pmsg_size=0\n"
+
+abbrev pub BigSizesRow : Type 0
+BigSizesRow = found_line (codes "disk")
+    (record { total = 8192; pmsg = 512; console = 0; ftrace = 0; dump = 4096; cpus = 1 }) Big
+    ≡ codes "disk: 8192 bytes; a storage of pstore_zone: kmsg_size=4096 console_size=0 ftrace_size=0 pmsg_size=512"
+    ++ codes " byte_order=big\n"
 
 abbrev pub CpusRow : Type 0
 CpusRow = size_words (record { total = 65536; pmsg = 512; console = 1024; ftrace = 2048; dump = 4096; cpus = 2 })
@@ -45,3 +52,10 @@ HasDumpRow = has_dump Aligned storage storage_zones ≡ true
 
 abbrev pub NoPanicRow : Type 0
 NoPanicRow = has_panic Aligned storage storage_zones ≡ false
+
+-- of a big-endian machine; to a little-endian one its zones are empty
+abbrev pub BigHasDumpRow : Type 0
+BigHasDumpRow = has_dump BigEndian big_storage big_zones ≡ true
+
+abbrev pub OtherOrderRow : Type 0
+OtherOrderRow = has_dump Aligned big_storage big_zones ≡ false

@@ -3,7 +3,9 @@
 
 ghost use Rattle.storage_examples.specs.Records.{HeldRow, AllHeldRow, TimeRow, NoTimeRow, EarlyRow, ErasedRow, FoundRow};
 ghost use Rattle.storage_examples.specs.Told.{SizesRow, CpusRow, TiedRow, NotTiedRow, OopsesRow, FaultRow, StartRow};
-ghost use Rattle.storage_examples.specs.Told.{FaultLinesRow, HasDumpRow, NoPanicRow};
+ghost use Rattle.storage_examples.specs.Told.{FaultLinesRow, HasDumpRow, NoPanicRow, BigSizesRow, BigHasDumpRow};
+ghost use Rattle.storage_examples.specs.Told.{OtherOrderRow};
+ghost use Rattle.storage_examples.specs.Records.{BigHeldRow, BigFoundRow, BigZoneRow};
 
 /// The records of small storages, their times, and how zones read.
 pub fn records()
@@ -14,6 +16,9 @@ pub fn records()
     ensures early { EarlyRow }
     ensures erased { ErasedRow }
     ensures found { FoundRow }
+    ensures big_held { BigHeldRow }
+    ensures big_found { BigFoundRow }
+    ensures big_zone { BigZoneRow }
 {}
 
 /// The lines on storages.
@@ -28,4 +33,7 @@ pub fn told()
     ensures fault_lines { FaultLinesRow }
     ensures has_dump { HasDumpRow }
     ensures no_panic { NoPanicRow }
+    ensures big_sizes { BigSizesRow }
+    ensures big_has_dump { BigHasDumpRow }
+    ensures other_order { OtherOrderRow }
 {}

@@ -2,6 +2,8 @@
 use Rattle.std.specs.Prelude.{ℕ, ◌==◌, Bool, not, ◌&&◌, if◌then◌else◌, List, [], ◌∷◌, ◌++◌, flat_map, codes, decimal}
 use Rattle.std.specs.Prelude.{Option, Some, None}
 use Rattle.std.specs.List.{list_any}
+use Rattle.zone_spec.specs.declared.params.ByteOrder.{ByteOrder}
+use Rattle.zone_spec.specs.declared.params.ByteOrder.TheVariants.{Little, Big}
 use Rattle.psz_spec.specs.declared.Kind.{Kind}
 use Rattle.psz_spec.specs.declared.Kind.TheVariants.{Pmsg, Console, Ftrace, Dump}
 use Rattle.psz_spec.specs.declared.Zone.{Zone}
@@ -9,7 +11,7 @@ use Rattle.psz_spec.specs.declared.Sizes.{Sizes}
 use Rattle.psz_spec.specs.declared.Machine.{Machine}
 use Rattle.psz_spec.specs.declared.KernelFault.{KernelFault}
 use Rattle.psz_spec.specs.declared.KernelFault.TheVariants.{StartBeyond, ShortDump, EmptyPacked}
-use Rattle.psz_spec.specs.Headers.{dump_header}
+use Rattle.psz_spec.specs.Headers.{order_of, dump_header}
 use Rattle.psz_spec.specs.Layouts.{zones_of}
 use Rattle.psz_spec.specs.States.{zone_bytes, data_of}
 use Rattle.psz_spec.specs.Records.{gives}
@@ -21,15 +23,21 @@ use Rattle.storage_spec.specs.declared.Storage.{Storage}
 abbrev pub cpus_words : Sizes → List ℕ
 cpus_words s = if s.ftrace == 0 then [] else codes " cpus=" ++ decimal s.cpus
 
+-- nothing of the order of most machines
+abbrev pub order_words : ByteOrder → List ℕ
+order_words Little = []
+order_words Big = codes " byte_order=big"
+
 -- in bytes
 abbrev pub size_words : Sizes → List ℕ
 size_words s =
     codes "kmsg_size=" ++ decimal s.dump ++ codes " console_size=" ++ decimal s.console ++ codes " ftrace_size="
     ++ decimal s.ftrace ++ codes " pmsg_size=" ++ decimal s.pmsg ++ cpus_words s
 
-abbrev pub found_line : List ℕ → Sizes → List ℕ
-found_line name s =
-    name ++ codes ": " ++ decimal s.total ++ codes " bytes; a storage of pstore_zone: " ++ size_words s ++ 10 ∷ []
+abbrev pub found_line : List ℕ → Sizes → ByteOrder → List ℕ
+found_line name s order =
+    name ++ codes ": " ++ decimal s.total ++ codes " bytes; a storage of pstore_zone: " ++ size_words s
+    ++ order_words order ++ 10 ∷ []
 
 abbrev pub tied_line : Bool → List ℕ
 tied_line tied =
@@ -80,7 +88,7 @@ fault_lines machine image zones = flat_map (fault_in machine image) zones
 
 abbrev pub lines_with : List ℕ → Storage → List Zone → List ℕ → List ℕ
 lines_with name s zones image =
-    found_line name s.sizes ++ tied_line s.tied
+    found_line name s.sizes (order_of s.machine) ++ tied_line s.tied
     ++ oopses_line (has_dump s.machine image zones && not (has_panic s.machine image zones))
     ++ fault_lines s.machine image zones
 

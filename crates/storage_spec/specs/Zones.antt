@@ -1,5 +1,5 @@
 -- The zones of a storage, and what a boot takes them for, in the words that a report has for those of a region
-use Rattle.std.specs.Prelude.{ℕ, ◌-◌, List, [], map, Option, Some}
+use Rattle.std.specs.Prelude.{ℕ, List, [], map, Option, Some}
 use Rattle.psz_spec.specs.declared.Kind.{Kind as StorageKind}
 use Rattle.psz_spec.specs.declared.Kind.TheVariants.{Pmsg as StoragePmsg, Console as StorageConsole}
 use Rattle.psz_spec.specs.declared.Kind.TheVariants.{Ftrace as StorageFtrace, Dump as StorageDump}
@@ -10,7 +10,7 @@ use Rattle.psz_spec.specs.declared.Machine.{Machine}
 use Rattle.psz_spec.specs.declared.State.{State as StorageState}
 use Rattle.psz_spec.specs.declared.State.TheVariants.{Unsigned as NotWritten, Overtop, NoDump, Erased, Broken}
 use Rattle.psz_spec.specs.declared.State.TheVariants.{Found as WasFound}
-use Rattle.psz_spec.specs.Headers.{sig_of, cap_of, words_of}
+use Rattle.psz_spec.specs.Headers.{order_of, sig_of, cap_of, words_of}
 use Rattle.psz_spec.specs.Layouts.{zones_of}
 use Rattle.psz_spec.specs.States.{zone_bytes, state_of}
 use Rattle.psz_spec.specs.Parts.{read_order}
@@ -23,7 +23,6 @@ use Rattle.zone_spec.specs.declared.State.TheVariants.{Unsigned, Empty, Invalid,
 use Rattle.zone_spec.specs.declared.PartState.TheVariants.{Read}
 use Rattle.zone_spec.specs.PartStates.{PartStates}
 use Rattle.zone_spec.specs.Reading.{ZoneReading}
-use Rattle.zone_spec.specs.declared.params.ByteOrder.TheVariants.{Little}
 
 abbrev pub kind_of : StorageKind → Kind
 kind_of StoragePmsg = Pmsg
@@ -32,8 +31,8 @@ kind_of StorageFtrace = Ftrace
 kind_of StorageDump = Dump
 
 -- a zone of a storage has neither parity nor blocks
-abbrev pub zone_of : StorageZone → Zone
-zone_of z = record {
+abbrev pub zone_of : Machine → StorageZone → Zone
+zone_of machine z = record {
   name = record { kind = kind_of z.kind; index = z.index };
   at = z.at;
   size = z.size;
@@ -42,7 +41,7 @@ zone_of z = record {
   parity = 0;
   sig = sig_of z.kind;
   block = 0;
-  byte_order = Little;
+  byte_order = order_of machine;
 }
 
 -- an erased zone is empty; one whose words or header are wrong is invalid
@@ -62,7 +61,7 @@ words_in w = record { sig = w.sig; start = w.start; size = w.len }
 abbrev pub reading_of : Machine → StorageZone → List ℕ → ZoneReading
 reading_of machine z bytes = record {
   state = state_in (state_of machine z bytes);
-  words = words_in (words_of bytes);
+  words = words_in (words_of machine bytes);
   log = [];
   corrected = 0;
   bad = 0;
@@ -72,8 +71,8 @@ abbrev pub reading_in : Machine → List ℕ → StorageZone → Option ZoneRead
 reading_in machine image z = Some (reading_of machine z (zone_bytes z image))
 
 -- the zones in the order in which the kernel reads them, so that dump zone i is the i-th
-unfoldable pub zones_in : Sizes → List Zone
-zones_in sizes = map zone_of (read_order (zones_of sizes))
+unfoldable pub zones_in : Machine → Sizes → List Zone
+zones_in machine sizes = map (zone_of machine) (read_order (zones_of sizes))
 
 -- their readings
 unfoldable pub readings_in : Machine → Sizes → List ℕ → List (Option ZoneReading)

@@ -8,7 +8,7 @@ use psz_spec::{Machine, Sizes};
 #[derive(Clone, Copy, Debug, PartialEq, Eq)]
 pub struct Storage {
     pub sizes: Sizes,
-    /// How the headers of its dumps are laid out.
+    /// The machine that wrote it.
     pub machine: Machine,
     /// One dump alone stands there: other sizes of dump zones show the same.
     pub tied: bool,

@@ -4,13 +4,13 @@ ghost use Rattle.psz_spec.specs.Layouts.{size_fault};
 ghost use Rattle.storage_words.specs.Division.{storage_of as storage_by_sizes, size_fault_text as text_by};
 ghost use Rattle.storage_words.specs.Division.{size_fault_number as number_by};
 
-use psz_read::{machine_in, marks_in, size_fault};
-use psz_spec::{Machine, SizeFault, Sizes};
+use psz_read::{machine_in, marks_in, order_in, size_fault};
+use psz_spec::{SizeFault, Sizes};
 use std::alloc::{AllocError, Global};
 use storage_spec::Storage;
 
-/// The storage that sizes divide, or why no kernel divides these bytes by them. The bytes show the machine. Takes time
-/// linear in them.
+/// The storage that sizes divide, or why no kernel divides these bytes by them. The bytes show the machine, with
+/// its order of bytes. Takes time linear in them.
 #[tactic(auto, unfolding(crate::specs::Division::storage_of))]
 pub fn storage_of(
     alloc: Global,
@@ -28,10 +28,11 @@ pub fn storage_of(
     if let Some(fault) = size_fault(&sizes) {
         return Ok(Err(fault));
     }
-    let marks = marks_in(alloc, bytes)?;
+    let order = order_in(bytes);
+    let marks = marks_in(alloc, order, bytes)?;
     Ok(Ok(Storage {
         sizes,
-        machine: machine_in(bytes, &marks).unwrap_or(Machine::Aligned),
+        machine: machine_in(order, bytes, &marks),
         tied: false,
     }))
 }

@@ -13,7 +13,7 @@ pub record IsOneMore (machine : Machine) (image : List ℕ) (z : StorageZone) (o
   pub parts : new.parts.items ≡ old.parts.items ++ no_parts ∷ []
 
 pub record IsZonesRead (machine : Machine) (sizes : Sizes) (image : List ℕ) (r : ZonesRead) : Type 0 where
-  pub zones : r.zones.items ≡ zones_in sizes
-  pub logs_zones : r.logs.zones ≡ zones_in sizes
+  pub zones : r.zones.items ≡ zones_in machine sizes
+  pub logs_zones : r.logs.zones ≡ zones_in machine sizes
   pub readings : r.logs.readings ≡ readings_in machine sizes image
-  pub parts : r.parts.items ≡ replicate (length (zones_in sizes)) no_parts
+  pub parts : r.parts.items ≡ replicate (length (zones_in machine sizes)) no_parts

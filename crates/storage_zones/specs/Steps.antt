@@ -17,7 +17,7 @@ made_in machine image kind z =
 
 -- the log of an ftrace zone, if it was found
 abbrev pub trace_in : Machine → List ℕ → Zone → List (List ℕ)
-trace_in machine image z = if gives machine image Ftrace z then log_of (zone_bytes z image) ∷ [] else []
+trace_in machine image z = if gives machine image Ftrace z then log_of machine (zone_bytes z image) ∷ [] else []
 
 abbrev pub is_any : List (List ℕ) → Bool
 is_any [] = false

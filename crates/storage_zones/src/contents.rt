@@ -29,10 +29,10 @@ fn front(bytes: &[u8], len: u32) -> &[u8]
 }
 
 /// The log of a ring that was found.
-pub fn log_of(alloc: Global, bytes: &[u8]) -> Result<Vec<u8>, AllocError>
-    ensures { IfOk result (λ log. log.items ≡ log_by bytes.now) }
+pub fn log_of(alloc: Global, machine: Machine, bytes: &[u8]) -> Result<Vec<u8>, AllocError>
+    ensures { IfOk result (λ log. log.items ≡ log_by machine bytes.now) }
 {
-    let words = words_of(bytes);
+    let words = words_of(machine, bytes);
     let kept = data_of(bytes);
     let mut log = Vec::from_slice(
         alloc,
@@ -57,7 +57,7 @@ pub fn content_of(alloc: Global, machine: Machine, bytes: &[u8]) -> Result<Vec<u
 {
     let header = dump_header(machine, data_of(bytes));
     let from = 12 + u64::from(header_len(machine));
-    let to = 12 + u64::from(words_of(bytes).len);
+    let to = 12 + u64::from(words_of(machine, bytes).len);
     let mut content = Vec::new(alloc);
     if !header.packed {
         add_total(&header, &mut content)?;

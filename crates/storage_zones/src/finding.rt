@@ -3,12 +3,12 @@ ghost use Rattle.std.specs.Prelude.{◌≡◌, ◌<◌, ◌^◌, length, None, I
 ghost use Rattle.psz_spec.specs.Layouts.{size_fault};
 ghost use Rattle.storage_spec.specs.Found.{storage_by as storage_with, storage_in as storage_shown};
 
-use psz_read::{Shown, machine_in, marks_in, shown_sizes, size_fault};
+use psz_read::{Shown, machine_in, marks_in, order_in, shown_sizes, size_fault};
 use psz_spec::Machine;
 use std::alloc::{AllocError, Global};
 use storage_spec::Storage;
 
-fn storage_by(shown: Option<Shown>, machine: Option<Machine>) -> Option<Storage>
+fn storage_by(shown: Option<Shown>, machine: Machine) -> Option<Storage>
     ensures shown { result ≡ storage_with shown machine }
     ensures faultless { IfSome result (λ s. size_fault s.sizes ≡ None) }
 {
@@ -18,7 +18,7 @@ fn storage_by(shown: Option<Shown>, machine: Option<Machine>) -> Option<Storage>
     }
     Some(Storage {
         sizes: shown.sizes,
-        machine: machine.unwrap_or(Machine::Aligned),
+        machine,
         tied: shown.tied,
     })
 }
@@ -30,7 +30,8 @@ pub fn storage_in(alloc: Global, bytes: &[u8]) -> Result<Option<Storage>, AllocE
     ensures shown { IfOk result (λ found. found ≡ storage_shown bytes.now) }
     ensures faultless { IfOk result (λ found. IfSome found (λ s. size_fault s.sizes ≡ None)) }
 {
-    let marks = marks_in(alloc, bytes)?;
-    let machine = machine_in(bytes, &marks);
+    let order = order_in(bytes);
+    let marks = marks_in(alloc, order, bytes)?;
+    let machine = machine_in(order, bytes, &marks);
     Ok(storage_by(shown_sizes(bytes.len() as u32, &marks), machine))
 }

@@ -55,8 +55,8 @@ fn made(
 {
     match kind {
         Kind::Dump => Ok(Some(held_dump(alloc, machine, zone.index, bytes)?)),
-        Kind::Pmsg => Ok(Some(held_pmsg(alloc, bytes)?)),
-        Kind::Console => Ok(Some(held_console(alloc, bytes)?)),
+        Kind::Pmsg => Ok(Some(held_pmsg(alloc, machine, bytes)?)),
+        Kind::Console => Ok(Some(held_console(alloc, machine, bytes)?)),
         Kind::Ftrace => Ok(None),
     }
 }

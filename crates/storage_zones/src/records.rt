@@ -47,17 +47,17 @@ pub fn held_dump(
 }
 
 /// The record of a pmsg zone with these bytes.
-pub fn held_pmsg(alloc: Global, bytes: &[u8]) -> Result<HeldRecord, AllocError>
-    ensures { IfOk result (λ r. r ≡ held_of (plain_listed StorageName.Pmsg (log_by bytes.now))) }
+pub fn held_pmsg(alloc: Global, machine: Machine, bytes: &[u8]) -> Result<HeldRecord, AllocError>
+    ensures { IfOk result (λ r. r ≡ held_of (plain_listed StorageName.Pmsg (log_by machine bytes.now))) }
 {
-    let log = log_of(alloc, bytes)?;
+    let log = log_of(alloc, machine, bytes)?;
     Ok(HeldRecord::plain(Name::Pmsg, None, Bytes::from_vec(log)))
 }
 
 /// The record of a console zone with these bytes.
-pub fn held_console(alloc: Global, bytes: &[u8]) -> Result<HeldRecord, AllocError>
-    ensures { IfOk result (λ r. r ≡ held_of (plain_listed StorageName.Console (log_by bytes.now))) }
+pub fn held_console(alloc: Global, machine: Machine, bytes: &[u8]) -> Result<HeldRecord, AllocError>
+    ensures { IfOk result (λ r. r ≡ held_of (plain_listed StorageName.Console (log_by machine bytes.now))) }
 {
-    let log = log_of(alloc, bytes)?;
+    let log = log_of(alloc, machine, bytes)?;
     Ok(HeldRecord::plain(Name::Console, None, Bytes::from_vec(log)))
 }

@@ -1,7 +1,7 @@
 // What is told of a storage that was found by its bytes.
 ghost use Rattle.std.specs.Prelude.{◌≡◌, ◌++◌, ◌&&◌, not, [], ◌∷◌, decimal, string_bytes, None, IfOk, OnOk};
 ghost use Rattle.psz_spec.specs.Layouts.{size_fault};
-ghost use Rattle.storage_spec.specs.Told.{cpus_words as cpus_by, size_words as sizes_by, found_line as found_by};
+ghost use Rattle.storage_spec.specs.Told.{order_words as order_by, cpus_words as cpus_by, size_words as sizes_by, found_line as found_by};
 ghost use Rattle.storage_spec.specs.Told.{tied_line as tied_by, oopses_line as oopses_by, is_panic as is_panic_by};
 ghost use Rattle.storage_spec.specs.Told.{has_dump as has_dump_by, has_panic as has_panic_by, kind_words as kind_by};
 ghost use Rattle.storage_spec.specs.Told.{fault_words as fault_by, fault_line as fault_line_by, fault_in, fault_lines};
@@ -9,10 +9,11 @@ ghost use Rattle.storage_spec.specs.Told.{storage_lines as lines_by};
 
 use crate::listing::gives;
 use crate::zones::lying_zones;
-use psz_read::{data_of, dump_header, kernel_fault, zone_bytes};
+use psz_read::{data_of, dump_header, kernel_fault, order_of, zone_bytes};
 use psz_spec::{KernelFault, Kind, Machine, Sizes, Zone};
 use std::alloc::{AllocError, Global};
 use storage_spec::Storage;
+use zone_spec::ByteOrder;
 
 // Appends words and a number after them.
 fn push_number(alloc: Global, text: &mut String, words: &str, n: u64) -> Result<(), AllocError>
@@ -45,13 +46,28 @@ fn size_words(alloc: Global, sizes: &Sizes) -> Result<String, AllocError>
     Ok(text)
 }
 
-fn found_line(alloc: Global, name: &str, sizes: &Sizes) -> Result<String, AllocError>
-    ensures { IfOk result (λ text. string_bytes text ≡ found_by name.now sizes.now) }
+fn order_words(order: ByteOrder) -> &'static str
+    ensures { result.now ≡ order_by order }
+{
+    match order {
+        ByteOrder::Little => "",
+        ByteOrder::Big => " byte_order=big",
+    }
+}
+
+fn found_line(
+    alloc: Global,
+    name: &str,
+    sizes: &Sizes,
+    order: ByteOrder,
+) -> Result<String, AllocError>
+    ensures { IfOk result (λ text. string_bytes text ≡ found_by name.now sizes.now order) }
 {
     let mut text = String::from_str(alloc, name)?;
     push_number(alloc, &mut text, ": ", sizes.total)?;
     text.push_str(" bytes; a storage of pstore_zone: ")?;
     text.push_str(&size_words(alloc, sizes)?)?;
+    text.push_str(order_words(order))?;
     text.push_str("\n")?;
     Ok(text)
 }
@@ -177,7 +193,8 @@ pub fn storage_lines(
     ensures { IfOk result (λ text. string_bytes text ≡ lines_by name.now storage.now image.now) }
 {
     let zones = lying_zones(alloc, &storage.sizes)?;
-    let mut text = found_line(alloc, name, &storage.sizes)?;
+    let order = order_of(storage.machine);
+    let mut text = found_line(alloc, name, &storage.sizes, order)?;
     text.push_str(tied_line(storage.tied))?;
     text.push_str(oopses_line(is_of_oopses(storage.machine, &zones, image)))?;
     push_faults(alloc, &mut text, storage.machine, &zones, image)?;

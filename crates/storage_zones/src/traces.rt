@@ -43,7 +43,7 @@ impl Traces {
         if !gives(machine, Kind::Ftrace, zone, image) {
             return Ok(self);
         }
-        let log = log_of(alloc, zone_bytes(zone, image))?;
+        let log = log_of(alloc, machine, zone_bytes(zone, image))?;
         let all = merged(alloc, &self.all, &log)?;
         Ok(Traces { is_any: true, all })
     }

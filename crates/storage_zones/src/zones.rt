@@ -10,10 +10,10 @@ ghost use Rattle.storage_zones.specs.Readings.{IsOneMore, IsZonesRead};
 
 use outside::Bytes;
 use prz_read::{Logs, Reading, ZoneParts};
-use psz_read::{read_at, state_of, words_of, zone_at, zone_bytes, zone_count};
+use psz_read::{order_of, read_at, state_of, words_of, zone_at, zone_bytes, zone_count};
 use psz_spec::{Machine, Sizes};
 use std::alloc::{AllocError, Global};
-use zone_spec::{ByteOrder, Kind, PartState, State, Words, Zone, ZoneName};
+use zone_spec::{Kind, PartState, State, Words, Zone, ZoneName};
 
 fn kind_of(kind: psz_spec::Kind) -> Kind
     ensures { result ≡ kind_by kind }
@@ -44,8 +44,8 @@ fn zone_name(kind: Kind, index: u32) -> ZoneName
     ZoneName { kind, index }
 }
 
-fn zone_of(zone: &psz_spec::Zone) -> Zone
-    ensures zone { result ≡ zone_by zone.now }
+fn zone_of(machine: Machine, zone: &psz_spec::Zone) -> Zone
+    ensures zone { result ≡ zone_by machine zone.now }
     ensures number { result.name.index < 2 ^ 32 }
 {
     Zone {
@@ -57,7 +57,7 @@ fn zone_of(zone: &psz_spec::Zone) -> Zone
         parity: 0,
         sig: sig_of(zone.kind),
         block: 0,
-        byte_order: ByteOrder::Little,
+        byte_order: order_of(machine),
     }
 }
 
@@ -90,7 +90,7 @@ fn reading_of(alloc: Global, machine: Machine, zone: &psz_spec::Zone, image: &[u
     let bytes = zone_bytes(zone, image);
     Reading {
         state: state_in(state_of(machine, zone, bytes)),
-        words: words_in(words_of(bytes)),
+        words: words_in(words_of(machine, bytes)),
         log: Bytes::empty(alloc),
         corrected: 0,
         bad: 0,
@@ -136,13 +136,17 @@ fn zones_in_order(alloc: Global, sizes: &Sizes) -> Result<Vec<psz_spec::Zone>, A
 }
 
 // The same as those of a region.
-fn region_zones(alloc: Global, zones: &[psz_spec::Zone]) -> Result<Vec<Zone>, AllocError>
-    ensures zones { IfOk result (λ all. all.items ≡ map zone_by zones.now) }
+fn region_zones(
+    alloc: Global,
+    machine: Machine,
+    zones: &[psz_spec::Zone],
+) -> Result<Vec<Zone>, AllocError>
+    ensures zones { IfOk result (λ all. all.items ≡ map (zone_by machine) zones.now) }
     ensures numbered { IfOk result (λ all. AreNumbered all.items) }
 {
     let mut all = Vec::with_capacity(alloc, zones.len())?;
     for zone in zones {
-        all.push(zone_of(zone))?;
+        all.push(zone_of(machine, zone))?;
     }
     Ok(all)
 }
@@ -187,7 +191,7 @@ pub fn read_zones(
     ensures { IfOk result (IsZonesRead machine sizes.now image.now) }
 {
     let order = zones_in_order(alloc, sizes)?;
-    let zones = region_zones(alloc, &order)?;
+    let zones = region_zones(alloc, machine, &order)?;
     let mut read = ZonesRead {
         logs: Logs::of_zones(alloc, &zones)?,
         parts: Vec::with_capacity(alloc, zones.len())?,

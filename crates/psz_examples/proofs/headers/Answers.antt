@@ -1,6 +1,7 @@
 -- Headers of dumps, and states of zones: the rows compute. By `Worked`.
 use Rattle.psz_examples.proofs.Worked.{wide_header, x86_header, erased, unwritten, overtop, no_dump, short}
 use Rattle.psz_examples.proofs.Worked.{no_dump_empty, header_alone, filled, one_more}
+use Rattle.psz_examples.proofs.Worked.{big_header, big_narrow_header, big_filled, big_one_more, big_erased, big_as_little, little_as_big}
 use Rattle.psz_examples.proofs.headers.Goals as goal
 
 pub returns-clause-wide : goal.returns-clause-wide
@@ -35,3 +36,24 @@ returns-clause-filled c = filled
 
 pub returns-clause-one_more : goal.returns-clause-one_more
 returns-clause-one_more c = one_more
+
+pub returns-clause-big_header : goal.returns-clause-big_header
+returns-clause-big_header c = big_header
+
+pub returns-clause-big_narrow_header : goal.returns-clause-big_narrow_header
+returns-clause-big_narrow_header c = big_narrow_header
+
+pub returns-clause-big_filled : goal.returns-clause-big_filled
+returns-clause-big_filled c = big_filled
+
+pub returns-clause-big_one_more : goal.returns-clause-big_one_more
+returns-clause-big_one_more c = big_one_more
+
+pub returns-clause-big_erased : goal.returns-clause-big_erased
+returns-clause-big_erased c = big_erased
+
+pub returns-clause-big_as_little : goal.returns-clause-big_as_little
+returns-clause-big_as_little c = big_as_little
+
+pub returns-clause-little_as_big : goal.returns-clause-little_as_big
+returns-clause-little_as_big c = little_as_big

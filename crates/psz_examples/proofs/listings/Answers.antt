@@ -1,6 +1,7 @@
 -- What the next boot lists: the rows compute. By `Worked`.
 use Rattle.psz_examples.proofs.Worked.{listing, total, negative, unknown, name, next, all_listed, erased_counts}
 use Rattle.psz_examples.proofs.Worked.{negative_time, panic_count}
+use Rattle.psz_examples.proofs.Worked.{big_listed, big_next, other_order}
 use Rattle.psz_examples.proofs.listings.Goals as goal
 
 pub returns-clause-listing : goal.returns-clause-listing
@@ -32,3 +33,12 @@ returns-clause-negative_time c = negative_time
 
 pub returns-clause-panic_count : goal.returns-clause-panic_count
 returns-clause-panic_count c = panic_count
+
+pub returns-clause-big_listed : goal.returns-clause-big_listed
+returns-clause-big_listed c = big_listed
+
+pub returns-clause-big_next : goal.returns-clause-big_next
+returns-clause-big_next c = big_next
+
+pub returns-clause-other_order : goal.returns-clause-other_order
+returns-clause-other_order c = other_order

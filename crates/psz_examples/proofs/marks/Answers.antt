@@ -2,6 +2,7 @@
 use Rattle.psz_examples.proofs.Marked.{marks, too_long, just_fits, step, all_shown, one_dump, one_small, one_long}
 use Rattle.psz_examples.proofs.Marked.{first_missing, no_dump, wide_machine, x86_machine, no_machine, kib, five_kib}
 use Rattle.psz_examples.proofs.Marked.{ten_kib, odd_kib, no_kib}
+use Rattle.psz_examples.proofs.Marked.{big_marks, little_order, big_order, first_order, other_no_mark, mixed_magic, no_mark}
 use Rattle.psz_examples.proofs.marks.Goals as goal
 
 pub returns-clause-marks : goal.returns-clause-marks
@@ -57,3 +58,24 @@ returns-clause-odd_kib c = odd_kib
 
 pub returns-clause-no_kib : goal.returns-clause-no_kib
 returns-clause-no_kib c = no_kib
+
+pub returns-clause-big_marks : goal.returns-clause-big_marks
+returns-clause-big_marks c = big_marks
+
+pub returns-clause-little_order : goal.returns-clause-little_order
+returns-clause-little_order c = little_order
+
+pub returns-clause-big_order : goal.returns-clause-big_order
+returns-clause-big_order c = big_order
+
+pub returns-clause-first_order : goal.returns-clause-first_order
+returns-clause-first_order c = first_order
+
+pub returns-clause-other_no_mark : goal.returns-clause-other_no_mark
+returns-clause-other_no_mark c = other_no_mark
+
+pub returns-clause-mixed_magic : goal.returns-clause-mixed_magic
+returns-clause-mixed_magic c = mixed_magic
+
+pub returns-clause-no_mark : goal.returns-clause-no_mark
+returns-clause-no_mark c = no_mark

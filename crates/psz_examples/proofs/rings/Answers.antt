@@ -1,6 +1,7 @@
 -- The logs of rings: the rows compute. By `Worked`.
 use Rattle.psz_examples.proofs.Worked.{wrapped, not_yet, full, beyond, not_yet_state, start_overtop, console, ftrace}
 use Rattle.psz_examples.proofs.Worked.{other_kind}
+use Rattle.psz_examples.proofs.Worked.{big_wrapped, big_ring_state, big_beyond, big_console}
 use Rattle.psz_examples.proofs.rings.Goals as goal
 
 pub returns-clause-wrapped : goal.returns-clause-wrapped
@@ -29,3 +30,15 @@ returns-clause-ftrace c = ftrace
 
 pub returns-clause-other_kind : goal.returns-clause-other_kind
 returns-clause-other_kind c = other_kind
+
+pub returns-clause-big_wrapped : goal.returns-clause-big_wrapped
+returns-clause-big_wrapped c = big_wrapped
+
+pub returns-clause-big_ring_state : goal.returns-clause-big_ring_state
+returns-clause-big_ring_state c = big_ring_state
+
+pub returns-clause-big_beyond : goal.returns-clause-big_beyond
+returns-clause-big_beyond c = big_beyond
+
+pub returns-clause-big_console : goal.returns-clause-big_console
+returns-clause-big_console c = big_console

@@ -1,6 +1,7 @@
 -- The rows compute. By `Worked`.
 use Rattle.storage_examples.proofs.Worked.{sizes, cpus, tied, not_tied, oopses, fault, start}
 use Rattle.storage_examples.proofs.Worked.{fault_lines, has_dump, no_panic}
+use Rattle.storage_examples.proofs.Worked.{big_sizes, big_has_dump, other_order}
 use Rattle.storage_examples.proofs.told.Goals as goal
 
 pub returns-clause-sizes : goal.returns-clause-sizes
@@ -32,3 +33,12 @@ returns-clause-has_dump c = has_dump
 
 pub returns-clause-no_panic : goal.returns-clause-no_panic
 returns-clause-no_panic c = no_panic
+
+pub returns-clause-big_sizes : goal.returns-clause-big_sizes
+returns-clause-big_sizes c = big_sizes
+
+pub returns-clause-big_has_dump : goal.returns-clause-big_has_dump
+returns-clause-big_has_dump c = big_has_dump
+
+pub returns-clause-other_order : goal.returns-clause-other_order
+returns-clause-other_order c = other_order

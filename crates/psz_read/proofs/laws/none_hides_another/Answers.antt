@@ -15,4 +15,4 @@ returns-clause-each c = λ machine image kind xs ys.
 pub returns-clause-traces : goal.returns-clause-traces
 returns-clause-traces c = λ machine image xs ys.
     flat_map-append
-    (λ (z : Zone). if gives machine image Ftrace z then log_of (zone_bytes z image) ∷ [] else []) xs ys
+    (λ (z : Zone). if gives machine image Ftrace z then log_of machine (zone_bytes z image) ∷ [] else []) xs ys

@@ -18,12 +18,12 @@ returns c =
     let most = c.loop-zone.auto.zone-index-end in
     let all : c.loop-zone.zone-index ≡ length items = omega (arith, past, most) in
     record {
-      zones = c.loop-zone.invariant.zones ∙ ap (map zone_of) order;
-      logs_zones = c.loop-zone.invariant.logs_zones ∙ ap (map zone_of) order;
+      zones = c.loop-zone.invariant.zones ∙ ap (map (zone_of c.args.machine)) order;
+      logs_zones = c.loop-zone.invariant.logs_zones ∙ ap (map (zone_of c.args.machine)) order;
       readings = c.loop-zone.invariant.readings
           ∙ ap (map (reading_in c.args.machine c.args.image.now))
           (take_all c.loop-zone.zone-index items (omega (arith, past)) ∙ order);
       parts = c.loop-zone.invariant.parts
           ∙ ap (λ (n : ℕ). replicate n no_parts)
-          (all ∙ sym (length-map items zone_of) ∙ ap (λ (zs : List Zone). length (map zone_of zs)) order);
+          (all ∙ sym (length-map items (zone_of c.args.machine)) ∙ ap (λ (zs : List Zone). length (map (zone_of c.args.machine) zs)) order);
     }

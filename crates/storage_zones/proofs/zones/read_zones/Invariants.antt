@@ -6,8 +6,8 @@ use Rattle.storage_zones.proofs.zones.read_zones.Given as goal
 
 abbrev pub invariant-loop-zone : goal.invariant-loop-zone
 invariant-loop-zone l = record {
-  zones : l.read.zones.items ≡ map zone_of l.zone-items;
-  logs_zones : l.read.logs.zones ≡ map zone_of l.zone-items;
+  zones : l.read.zones.items ≡ map (zone_of l.machine) l.zone-items;
+  logs_zones : l.read.logs.zones ≡ map (zone_of l.machine) l.zone-items;
   readings : l.read.logs.readings ≡ map (reading_in l.machine l.image) (take l.zone-index l.zone-items);
   parts : l.read.parts.items ≡ replicate l.zone-index no_parts;
 }

@@ -6,6 +6,6 @@ use Rattle.storage_zones.proofs.zones.region_zones.Given as goal
 
 abbrev pub invariant-loop-zone : goal.invariant-loop-zone
 invariant-loop-zone l = record {
-  zones : l.all.items ≡ map zone_of (take l.zone-index l.zones);
+  zones : l.all.items ≡ map (zone_of l.machine) (take l.zone-index l.zones);
   numbered : AreNumbered l.all.items;
 }
