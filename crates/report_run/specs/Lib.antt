@@ -3,6 +3,7 @@ pub mod ReadOnly
 pub mod Messages
 pub mod Plans
 pub mod Images
+pub mod Boots
 pub mod Logs
 pub mod Packed
 pub mod Storages
