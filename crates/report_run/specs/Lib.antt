@@ -1,6 +1,7 @@
 pub mod Failures
 pub mod ReadOnly
 pub mod Messages
+pub mod Looking
 pub mod Plans
 pub mod Images
 pub mod Boots

@@ -166,15 +166,7 @@ fn report_earlier<O: Sink>(
         (O.faults out.new)) }
 {
     match earlier_format(asked.format) {
-        Some(format) => report_boots(
-            alloc,
-            asked,
-            format,
-            path,
-            log,
-            earlier(&log.boots),
-            out,
-        ),
+        Some(format) => report_boots(alloc, asked, format, path, log, earlier(&log.boots), out),
         None => Ok(()),
     }
 }

@@ -94,7 +94,7 @@ fn sought_report<M: Load, O: Sink, E: Sink>(
     ensures same { M.holds image.new ≡ M.holds image.old }
     ensures later { M.faults image.old ≤ M.faults image.new }
 {
-    let told = sought_plan(alloc, asked, known, path, image)?;
+    let told = sought_plan(alloc, asked, known, path, image, messages)?;
     let report = report_by(alloc, &told.plan, asked.format, path, image, out)?;
     tell_layout(asked.format, &told.hint, out, messages)?;
     Ok(report)
