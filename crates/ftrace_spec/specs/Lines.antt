@@ -7,7 +7,7 @@ use Rattle.std.specs.List.{prefix_len}
 use Rattle.std.proofs.Common.{w64}
 use Rattle.zone_spec.specs.Ftrace.{entries, entry_time}
 use Rattle.symbol_spec.specs.declared.Symbol.{Symbol}
-use Rattle.symbol_spec.specs.Maps.{name_at}
+use Rattle.symbol_spec.specs.Maps.{name_at, module_at}
 use Rattle.symbol_spec.specs.Functions.{function_of}
 
 -- ---- numbers
@@ -32,9 +32,19 @@ abbrev pub bare_text : List ℕ → ℕ → Option Symbol → List ℕ
 bare_text map address None = codes "0x" ++ hexadecimal 1 address
 bare_text map address (Some s) = name_at map s.name
 
+abbrev pub spaced : List ℕ → List ℕ
+spaced [] = []
+spaced (b ∷ bs) = 32 ∷ b ∷ bs
+
+-- the module that the function is of, behind a space
+abbrev pub module_text : List ℕ → Option Symbol → List ℕ
+module_text map None = []
+module_text map (Some s) = spaced (module_at map s.name)
+
 -- the function of an address (`%ps`); without one the kernel shows the address
 unfoldable pub function_text : List ℕ → ℕ → List ℕ
-function_text map address = bare_text map address (function_of map address)
+function_text map address =
+    bare_text map address (function_of map address) ++ module_text map (function_of map address)
 
 abbrev pub offset_text : ℕ → Option Symbol → List ℕ
 offset_text address None = []
@@ -42,7 +52,9 @@ offset_text address (Some s) = codes "+0x" ++ hexadecimal 1 (address - s.address
 
 -- also how far behind its beginning the address is (`%pS`, without the function's size)
 unfoldable pub place_text : List ℕ → ℕ → List ℕ
-place_text map address = function_text map address ++ offset_text address (function_of map address)
+place_text map address =
+    bare_text map address (function_of map address) ++ offset_text address (function_of map address)
+    ++ module_text map (function_of map address)
 
 -- ---- entries
 

@@ -1,15 +1,14 @@
 // The lines.
 ghost use Rattle.std.specs.Prelude.{◌≡◌, ◌++◌, ◌/◌, ◌%◌, decimal, map, flat_map, IfOk, OnOk};
-ghost use Rattle.ftrace_spec.specs.Lines.{bare_text, function_text, offset_text, place_text, head_by, line_by};
-ghost use Rattle.ftrace_spec.specs.Lines.{line_text, trace_text as text_of};
-ghost use Rattle.symbol_spec.specs.Functions.{function_of};
+ghost use Rattle.ftrace_spec.specs.Lines.{bare_text, spaced, module_text, function_text, offset_text, place_text};
+ghost use Rattle.ftrace_spec.specs.Lines.{head_by, line_by, line_text, trace_text as text_of};
 ghost use Rattle.ftrace_zone.specs.EntryBytes.{entry_bytes};
 
 use crate::hexadecimal::push_hexadecimal;
 use ftrace_zone::{Entry, entries};
 use itoa::Buffer;
 use std::alloc::{AllocError, Global};
-use symbols::Symbols;
+use symbols::{Symbol, Symbols};
 
 fn push(out: &mut Vec<u8>, bytes: &[u8]) -> Result<(), AllocError>
     ensures { OnOk result (out.new.items ≡ out.old.items ++ bytes.now) }
@@ -24,12 +23,16 @@ fn push_decimal(out: &mut Vec<u8>, n: u64) -> Result<(), AllocError>
     push(out, digits.format(n).as_bytes())
 }
 
-/// Appends the function of an address, or the address.
-#[tactic(auto, unfolding(ftrace_spec::specs::Lines::function_text))]
-fn push_function(out: &mut Vec<u8>, symbols: &Symbols, address: u64) -> Result<(), AllocError>
-    ensures { OnOk result (out.new.items ≡ out.old.items ++ function_text symbols.now address) }
+// Appends the function of an address, or the address.
+fn push_bare(
+    out: &mut Vec<u8>,
+    symbols: &Symbols,
+    address: u64,
+    symbol: Option<Symbol>,
+) -> Result<(), AllocError>
+    ensures { OnOk result (out.new.items ≡ out.old.items ++ bare_text symbols.now address symbol) }
 {
-    match symbols.function_at(address) {
+    match symbol {
         Some(symbol) => push(out, symbols.name(symbol)),
         None => {
             push(out, b"0x")?;
@@ -38,10 +41,43 @@ fn push_function(out: &mut Vec<u8>, symbols: &Symbols, address: u64) -> Result<(
     }
 }
 
-fn push_offset(out: &mut Vec<u8>, symbols: &Symbols, address: u64) -> Result<(), AllocError>
-    ensures { OnOk result (out.new.items ≡ out.old.items ++ offset_text address (function_of symbols.now address)) }
+fn push_spaced(out: &mut Vec<u8>, text: &[u8]) -> Result<(), AllocError>
+    ensures { OnOk result (out.new.items ≡ out.old.items ++ spaced text.now) }
 {
-    match symbols.function_at(address) {
+    if text.is_empty() {
+        return Ok(());
+    }
+    push(out, b" ")?;
+    push(out, text)
+}
+
+fn push_module(
+    out: &mut Vec<u8>,
+    symbols: &Symbols,
+    symbol: Option<Symbol>,
+) -> Result<(), AllocError>
+    ensures { OnOk result (out.new.items ≡ out.old.items ++ module_text symbols.now symbol) }
+{
+    match symbol {
+        Some(symbol) => push_spaced(out, symbols.module(symbol)),
+        None => Ok(()),
+    }
+}
+
+/// Appends the function of an address, with its module, or the address.
+#[tactic(auto, unfolding(ftrace_spec::specs::Lines::function_text))]
+fn push_function(out: &mut Vec<u8>, symbols: &Symbols, address: u64) -> Result<(), AllocError>
+    ensures { OnOk result (out.new.items ≡ out.old.items ++ function_text symbols.now address) }
+{
+    let symbol = symbols.function_at(address);
+    push_bare(out, symbols, address, symbol)?;
+    push_module(out, symbols, symbol)
+}
+
+fn push_offset(out: &mut Vec<u8>, address: u64, symbol: Option<Symbol>) -> Result<(), AllocError>
+    ensures { OnOk result (out.new.items ≡ out.old.items ++ offset_text address symbol) }
+{
+    match symbol {
         Some(symbol) => {
             push(out, b"+0x")?;
             push_hexadecimal(out, 1, address.saturating_sub(symbol.address))
@@ -54,8 +90,10 @@ fn push_offset(out: &mut Vec<u8>, symbols: &Symbols, address: u64) -> Result<(),
 fn push_place(out: &mut Vec<u8>, symbols: &Symbols, address: u64) -> Result<(), AllocError>
     ensures { OnOk result (out.new.items ≡ out.old.items ++ place_text symbols.now address) }
 {
-    push_function(out, symbols, address)?;
-    push_offset(out, symbols, address)
+    let symbol = symbols.function_at(address);
+    push_bare(out, symbols, address, symbol)?;
+    push_offset(out, address, symbol)?;
+    push_module(out, symbols, symbol)
 }
 
 #[tactic(auto, unfolding(ftrace_spec::specs::Lines::head_by))]

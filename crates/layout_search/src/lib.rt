@@ -22,4 +22,4 @@ mod trying;
 pub use laying::params;
 pub use layout_spec::{Candidate, Known, Tally};
 pub use marks::is_mark;
-pub use searching::{Found, search};
+pub use searching::{FEW, Found, search, search_within};

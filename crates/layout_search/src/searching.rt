@@ -31,6 +31,9 @@ use std::alloc::{AllocError, Global};
 // 8192.
 const WORK: u64 = 1 << 29;
 
+/// So much of it is a look of some two seconds, an eighth of what `search` may take.
+pub const FEW: u64 = 1 << 26;
+
 // No layout has more faults.
 const LAST: u64 = (1 << 62) + (1 << 32);
 
@@ -198,6 +201,7 @@ fn find_first(
     lists: &Lists,
     marks: u64,
     some: Best,
+    work: u64,
     sights: &mut Sights,
 ) -> Result<Progress, AllocError>
     requires seen { AreSeen image.now sights.old }
@@ -205,6 +209,7 @@ fn find_first(
     requires few { marks < 2 ^ 62 }
     requires lists { AreLists known.now (length image.now) lists.now }
     requires sound { IsKept known.now image.now None some }
+    requires work { 0 < work }
     ensures seen { OnOk result (AreSeen image.now sights.new) }
     ensures sound { IfOk result (λ state. IsSound known.now image.now None state.best) }
     ensures some { IfOk result (λ state. state.best ≢ None) }
@@ -213,14 +218,14 @@ fn find_first(
     ensures given_up { IfOk result (λ state. state.work ≡ 0 → MayGiveUp known.now image.now) }
     ensures so_far { IfOk result (IsBestSoFar known.now image.now) }
 {
-    let mut state = begin(Some(some), Effort::All, WORK);
+    let mut state = begin(Some(some), Effort::All, work);
     if try_limit(alloc, image, known, lists, marks, 0, sights, &mut state)? {
         return Ok(state);
     }
     if try_limit(alloc, image, known, lists, marks, 1, sights, &mut state)? {
         return Ok(state);
     }
-    let mut rest = begin(state.best, effort_for(known), WORK);
+    let mut rest = begin(state.best, effort_for(known), work);
     find_faulty(alloc, image, known, lists, marks, sights, &mut rest)?;
     Ok(rest)
 }
@@ -394,13 +399,26 @@ fn has_other(
 pub fn search(alloc: Global, image: &[u8], known: &Known) -> Result<Option<Found>, AllocError>
     ensures { IfOk result (IsSearched known.now image.now) }
 {
+    search_within(alloc, image, known, WORK)
+}
+
+/// The same, where it may do so much work. With less it is sooner at an end that is no whole one.
+pub fn search_within(
+    alloc: Global,
+    image: &[u8],
+    known: &Known,
+    work: u64,
+) -> Result<Option<Found>, AllocError>
+    requires { 0 < work }
+    ensures { IfOk result (IsSearched known.now image.now) }
+{
     let lists = make_lists(alloc, known, image.len() as u64)?;
     let marks = count_marks(image);
     let mut sights = no_sights(alloc, image)?;
     let Some(some) = find_some(alloc, image, known, &lists, marks, &mut sights)? else {
         return Ok(None);
     };
-    let state = find_first(alloc, image, known, &lists, marks, some, &mut sights)?;
+    let state = find_first(alloc, image, known, &lists, marks, some, work, &mut sights)?;
     let Some(best) = state.best else {
         return Ok(None);
     };

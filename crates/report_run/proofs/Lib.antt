@@ -2,6 +2,7 @@
 -- their names, and those that are found. `tell_failure`, `sought_report`, `report_path`, `run`, `report_regions`,
 -- `report_named`, `report_given` and `regions_found` cite them.
 mod BestLines
+mod BootSteps
 mod FoundRegions
 mod LogEnds
 mod NamedRegions

@@ -9,19 +9,18 @@ use Rattle.command_spec.specs.declared.Stop.TheVariants.{Memory, Usage, Param, L
 use Rattle.command_spec.specs.declared.Stop.TheVariants.{ImageFault, SinkFault, TooLong, BadLine, Refused}
 use Rattle.image_file.specs.Loading.{FrontStop}
 use Rattle.text_log_spec.specs.Boots.{IsTextLog}
-use Rattle.log_image.specs.declared.LogImage.{LogImage}
-use Rattle.log_image.specs.Images.{IsLogImage}
 use Rattle.layout_spec.specs.declared.Known.{Known}
 use Rattle.region_report.specs.Reports.{ReportHeld}
-use Rattle.report_tool.specs.Images.{IsReported}
+use Rattle.report_run.specs.declared.boots.HeldLog.{HeldLog}
 use Rattle.report_run.specs.declared.plans.Asked.{Asked}
 use Rattle.report_run.specs.declared.plans.Logs.TheVariants.{Texts}
 use Rattle.report_run.specs.declared.failures.Failure.{Failure}
 use Rattle.report_run.specs.Failures.{stop_failure}
 use Rattle.report_run.specs.Messages.{Seen}
-use Rattle.report_run.specs.Plans.{dressed, map_of}
+use Rattle.report_run.specs.Boots.{IsTextHeld, IsLogShown, IsLogUnshown}
 use Rattle.report_run.specs.Storages.{IsUnloggedReport, IsNoUnloggedReport}
-use Rattle.report_run.specs.Logs.{front_len, most_log, text_in, log_text, IsNoLog, IsSeenLog, IsHeldLog, IsUnlooked, IsLogUnreported}
+use Rattle.report_run.specs.Logs.{front_len, most_log, text_in, log_text, IsLogOf, IsNoLog, IsSeenLog, IsHeldLog}
+use Rattle.report_run.specs.Logs.{IsUnlooked}
 use Rattle.report_run.specs.Reports.{IsUnknownReport, IsNoUnknownReport}
 
 -- ---- the look
@@ -40,20 +39,24 @@ tail image =
     take_all most_log (drop (length image - most_log) image)
     (omega (arith, length-drop (length image - most_log) image))
 
-pub log_held : (holds same : Option (List ℕ)) (size at : ℕ) (bytes slice text : List ℕ) (l : LogImage) → same ≡ holds
-    → at ≡ size - most_log → slice ≡ bytes → text ≡ text_in (nat_lt most_log size) slice
+pub log_held : (holds same : Option (List ℕ)) (size at base : ℕ) (bytes text : List ℕ) (l : HeldLog) → same ≡ holds
+    → at ≡ size - most_log → text ≡ text_in (nat_lt most_log size) bytes → base ≡ size - length text
     → IfSome holds (λ image. size ≡ length image)
     → IfSome same (λ image. bytes ≡ take most_log (drop at image))
-    → IsLogImage text l → IfSome holds (λ image. IsLogImage (log_text image) l)
-log_held None same size at bytes slice text l e at_is slice_is text_is sized read is = tt
-log_held (Some image) same size at bytes slice text l e at_is slice_is text_is sized read is =
+    → IsTextHeld text base l → IfSome holds (λ image. IsLogOf image l)
+log_held None same size at base bytes text l e at_is text_is base_is sized read is = tt
+log_held (Some image) same size at base bytes text l e at_is text_is base_is sized read is =
     let here : bytes ≡ take most_log (drop at image) =
     subst (λ (o : Option (List ℕ)). IfSome o (λ image. bytes ≡ take most_log (drop at image))) e read in
     let of_size : bytes ≡ take most_log (drop (length image - most_log) image) =
     subst (λ (n : ℕ). bytes ≡ take most_log (drop n image)) (at_is ∙ ap (λ n. n - most_log) sized) here in
-    subst (λ (t : List ℕ). IsLogImage t l)
-    (text_is ∙ ap (λ n. text_in (nat_lt most_log n) slice) sized
-    ∙ ap (text_in (nat_lt most_log (length image))) (slice_is ∙ of_size ∙ tail image)) is
+    let whole : text ≡ log_text image =
+    text_is ∙ ap (λ n. text_in (nat_lt most_log n) bytes) sized
+    ∙ ap (text_in (nat_lt most_log (length image))) (of_size ∙ tail image) in
+    let place : base ≡ length image - length (log_text image) =
+    base_is ∙ ap (λ n. n - length text) sized ∙ ap (λ t. length image - length t) whole in
+    subst (λ (t : List ℕ). IsTextHeld t (length image - length (log_text image)) l) whole
+    (subst (λ (n : ℕ). IsTextHeld text n l) place is)
 
 pub unlooked : (s : Stop) (before now : ℕ) → FrontStop s before now → IsUnlooked before now (stop_failure s)
 unlooked Memory before now h = tt
@@ -77,9 +80,8 @@ module _ (asked : Asked) (known : Known) (path : List ℕ) (holds given now : Op
         → IsNoUnknownReport asked known path holds read0 read2 given given put0 put1 a a why
     unseen a why h = inl (record { cause = h; unput = refl; silent = refl })
 
-    pub by_log : (log : LogImage) (a : Seen) (r : Result ReportHeld Failure) → IsHeldLog asked.logs holds log
-        → MatchResult r (IsReported asked.format path (dressed log.plan asked.lines (map_of asked.map))
-        (Some log.region.items) given now) (IsLogUnreported asked path log given now put0 put1)
+    pub by_log : (log : HeldLog) (a : Seen) (r : Result ReportHeld Failure) → IsHeldLog asked.logs holds log
+        → MatchResult r (IsLogShown asked path log given now) (IsLogUnshown asked path log given now put0 put1)
         → MatchResult r (IsUnknownReport asked known path holds given now a a)
         (IsNoUnknownReport asked known path holds read0 read2 given now put0 put1 a a)
     by_log log a (Ok report) is h =

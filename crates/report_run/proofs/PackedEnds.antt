@@ -4,37 +4,34 @@ use Rattle.std.proofs.Common.{◌≡◌, ℕ, List, take, Option, Some, subst, i
 use Rattle.std.specs.Prelude.{Result, Ok, Err, MatchResult, IfSome}
 use Rattle.packed_record.specs.Packed.{stream_of, IsText}
 use Rattle.report_spec.specs.declared.TextFault.{TextFault}
-use Rattle.log_image.specs.declared.LogImage.{LogImage}
-use Rattle.log_image.specs.Images.{IsLogImage}
 use Rattle.region_report.specs.Reports.{ReportHeld}
-use Rattle.report_tool.specs.Images.{IsReported}
+use Rattle.report_run.specs.declared.boots.HeldLog.{HeldLog}
 use Rattle.report_run.specs.declared.plans.Asked.{Asked}
 use Rattle.report_run.specs.declared.packed.PackedLog.{PackedLog}
 use Rattle.report_run.specs.declared.failures.Failure.{Failure}
-use Rattle.report_run.specs.Logs.{most_log, IsLogUnreported}
+use Rattle.report_run.specs.Boots.{IsTextHeld, IsLogShown, IsLogUnshown}
+use Rattle.report_run.specs.Logs.{most_log}
 use Rattle.report_run.specs.Messages.{Seen, IsPartTold}
 use Rattle.report_run.specs.Packed.{IsPackedLog, IsPackedReport, IsNoPackedReport}
-use Rattle.report_run.specs.Plans.{dressed, map_of}
 
-pub held : (holds : Option (List ℕ)) (bytes slice text shown : List ℕ) (fault : Option TextFault) (l : LogImage)
+pub held : (holds : Option (List ℕ)) (bytes slice text : List ℕ) (fault : Option TextFault) (l : HeldLog)
     → IfSome holds (λ image. bytes ≡ take most_log image) → slice ≡ bytes
-    → IsText fault (stream_of slice) most_log text → shown ≡ text → IsLogImage shown l
+    → IsText fault (stream_of slice) most_log text → IsTextHeld text 0 l
     → IsPackedLog holds (record { log = l; fault = fault })
-held holds bytes slice text shown fault l read e is f log = record {
+held holds bytes slice text fault l read e is log = record {
   text = text;
   has_text = record {
     bytes = bytes;
     are = read;
     is_text = subst (λ (b : List ℕ). IsText fault (stream_of b) most_log text) e is;
   };
-  is_log = subst (λ (t : List ℕ). IsLogImage t l) f log;
+  is_log = log;
 }
 
 module _ (asked : Asked) (path : List ℕ) (holds given now : Option (List ℕ)) (read0 read1 put0 put1 : ℕ) (a b : Seen)
     (packed : PackedLog) (is : IsPackedLog holds packed) (told : IsPartTold path packed.fault a b) where
   pub by_text : (r : Result ReportHeld Failure)
-      → MatchResult r (IsReported asked.format path (dressed packed.log.plan asked.lines (map_of asked.map))
-      (Some packed.log.region.items) given now) (IsLogUnreported asked path packed.log given now put0 put1)
+      → MatchResult r (IsLogShown asked path packed.log given now) (IsLogUnshown asked path packed.log given now put0 put1)
       → MatchResult r (IsPackedReport asked path holds given now a b)
       (IsNoPackedReport asked path holds read0 read1 given now put0 put1 a b)
   by_text (Ok report) h = record { packed = packed; is_log = is; told = told; reported = h }

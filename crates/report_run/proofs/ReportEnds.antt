@@ -14,6 +14,7 @@ use Rattle.report_entry.specs.declared.laying.Layouts.TheVariants.{Given}
 use Rattle.report_run.specs.declared.plans.Asked.{Asked}
 use Rattle.report_run.specs.declared.failures.Failure.{Failure}
 use Rattle.report_run.specs.Messages.{Seen}
+use Rattle.report_run.specs.Looking.{IsLooking}
 use Rattle.report_run.specs.Plans.{IsAskedPlan}
 use Rattle.report_run.specs.Images.{TellsLayout, IsNotTold, IsStopped, IsSoughtReport, IsNoSoughtReport}
 use Rattle.report_run.specs.Reports.{IsReport, IsNoReport}
@@ -27,14 +28,17 @@ settled Html lines given now before after a b t = t.no_fault
 settled Brief lines given now before after a b t = t.no_fault
 
 module _ (asked : Asked) (known : Known) (path : List ℕ) (holds same : Option (List ℕ)) (told : HintedPlan)
-    (planned : IsAskedPlan asked known path holds told) (e : same ≡ holds) where
+    (planned : IsAskedPlan asked known path holds told) (first looked : Seen)
+    (looking : IsLooking known path holds first looked) (e : same ≡ holds) where
   -- the report by the plan stopped
-  pub unreported : (given now : Option (List ℕ)) (put0 put1 read0 read1 read2 : ℕ) (a : Seen) (why : Failure)
+  pub unreported : (given now : Option (List ℕ)) (put0 put1 read0 read1 read2 : ℕ) (why : Failure)
       → read0 ≤ read1 → IsStopped asked.format path told.plan same read1 read2 given now put0 put1 why
-      → IsNoSoughtReport asked known path holds read0 read2 given now put0 put1 a a why
-  unreported given now put0 put1 read0 read1 read2 a why later h = inr (inr (record {
+      → IsNoSoughtReport asked known path holds read0 read2 given now put0 put1 first looked why
+  unreported given now put0 put1 read0 read1 read2 why later h = inr (inr (record {
     told = told;
     planned = planned;
+    looked = looked;
+    looking = looking;
     read_between = read1;
     later = later;
     cause = subst (λ (o : Option (List ℕ)). IsStopped asked.format path told.plan o read1 read2 given now put0 put1 why)
@@ -44,35 +48,39 @@ module _ (asked : Asked) (known : Known) (path : List ℕ) (holds same : Option 
 
   module _ (given between now : Option (List ℕ)) (report : ReportHeld)
       (reported : IsReported asked.format path told.plan same given between report) (lines : List ℕ)
-      (are : lines ≡ string_bytes told.hint) (put0 put1 put2 : ℕ) (kept : put1 ≡ put0) (a b : Seen) where
+      (are : lines ≡ string_bytes told.hint) (put0 put1 put2 : ℕ) (kept : put1 ≡ put0) (b : Seen) where
     here : IsReported asked.format path told.plan holds given between report
     here = subst (λ (o : Option (List ℕ)). IsReported asked.format path told.plan o given between report) e reported
 
     -- the lines were told behind it
-    pub ended : TellsLayout asked.format lines between now put1 put2 a b
-        → IsSoughtReport asked known path holds given now a b report
+    pub ended : TellsLayout asked.format lines between now put1 put2 looked b
+        → IsSoughtReport asked known path holds given now first b report
     ended tells = record {
       told = told;
       planned = planned;
+      looked = looked;
+      looking = looking;
       between = between;
       reported = here;
       faults = put1;
-      lines = subst (λ (t : List ℕ). TellsLayout asked.format t between now put1 put1 a b) are
-          (subst (λ (p : ℕ). TellsLayout asked.format lines between now put1 p a b)
-          (settled asked.format lines between now put1 put2 a b tells) tells);
+      lines = subst (λ (t : List ℕ). TellsLayout asked.format t between now put1 put1 looked b) are
+          (subst (λ (p : ℕ). TellsLayout asked.format lines between now put1 p looked b)
+          (settled asked.format lines between now put1 put2 looked b tells) tells);
     }
 
     -- or they failed
-    pub unended : (read0 read1 : ℕ) (why : Failure) → IsNotTold asked.format lines between now put1 put2 a b why
-        → IsNoSoughtReport asked known path holds read0 read1 given now put0 put2 a b why
+    pub unended : (read0 read1 : ℕ) (why : Failure) → IsNotTold asked.format lines between now put1 put2 looked b why
+        → IsNoSoughtReport asked known path holds read0 read1 given now put0 put2 first b why
     unended read0 read1 why fails = inr (inl (record {
       told = told;
       planned = planned;
+      looked = looked;
+      looking = looking;
       between = between;
       report = report;
       reported = here;
-      cause = subst (λ (p : ℕ). IsNotTold asked.format (string_bytes told.hint) between now p put2 a b why) kept
-          (subst (λ (t : List ℕ). IsNotTold asked.format t between now put1 put2 a b why) are fails);
+      cause = subst (λ (p : ℕ). IsNotTold asked.format (string_bytes told.hint) between now p put2 looked b why) kept
+          (subst (λ (t : List ℕ). IsNotTold asked.format t between now put1 put2 looked b why) are fails);
     }))
 
 -- a plan that is given: nothing goes to standard error

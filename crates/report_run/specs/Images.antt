@@ -15,6 +15,7 @@ use Rattle.report_run.specs.declared.failures.Failure.{Failure}
 use Rattle.report_run.specs.declared.failures.Failure.TheVariants.{Unwritten}
 use Rattle.report_run.specs.Failures.{stop_failure}
 use Rattle.report_run.specs.Messages.{Seen, IsTold}
+use Rattle.report_run.specs.Looking.{IsLooking, MayLook}
 use Rattle.report_run.specs.Plans.{IsAskedPlan, IsNotSought}
 
 -- ---- the lines on a layout: to standard output with a text, and to standard error for JSON and a page; one line has
@@ -65,33 +66,37 @@ abbrev pub IsStoppedAt : Format → List ℕ → Plan → List ℕ → Option (L
 IsStoppedAt format path plan bytes given now put_before put_now why =
     IsStopped format path plan (Some bytes) 0 0 given now put_before put_now why
 
--- ---- an image whose layout is looked for
+-- ---- an image whose layout is looked for: first a line, if that takes long
 
 pub record IsSoughtReport (asked : Asked) (known : Known) (path : List ℕ) (holds given now : Option (List ℕ))
     (a b : Seen) (report : ReportHeld) : Type 0 where
   pub told : HintedPlan
   pub planned : IsAskedPlan asked known path holds told
+  pub looked : Seen
+  pub looking : IsLooking known path holds a looked
   pub between : Option (List ℕ)
   pub reported : IsReported asked.format path told.plan holds given between report
   pub faults : ℕ
-  pub lines : TellsLayout asked.format (string_bytes told.hint) between now faults faults a b
+  pub lines : TellsLayout asked.format (string_bytes told.hint) between now faults faults looked b
 
 -- there is no plan: nothing was given out
 pub record IsUnplanned (known : Known) (path : List ℕ) (holds : Option (List ℕ)) (read_before read_now : ℕ)
     (given now : Option (List ℕ)) (a b : Seen) (why : Failure) : Type 0 where
   pub cause : IsNotSought known path holds read_before read_now why
   pub unput : now ≡ given
-  pub silent : b ≡ a
+  pub looking : MayLook known path holds a b
 
 -- or the lines on the layout failed, behind the report
 pub record IsUnended (asked : Asked) (known : Known) (path : List ℕ) (holds given now : Option (List ℕ))
     (put_before put_now : ℕ) (a b : Seen) (why : Failure) : Type 0 where
   pub told : HintedPlan
   pub planned : IsAskedPlan asked known path holds told
+  pub looked : Seen
+  pub looking : IsLooking known path holds a looked
   pub between : Option (List ℕ)
   pub report : ReportHeld
   pub reported : IsReported asked.format path told.plan holds given between report
-  pub cause : IsNotTold asked.format (string_bytes told.hint) between now put_before put_now a b why
+  pub cause : IsNotTold asked.format (string_bytes told.hint) between now put_before put_now looked b why
 
 -- or the report by the plan did
 pub record IsUnreported (asked : Asked) (known : Known) (path : List ℕ) (holds : Option (List ℕ))
@@ -99,10 +104,12 @@ pub record IsUnreported (asked : Asked) (known : Known) (path : List ℕ) (holds
     : Type 0 where
   pub told : HintedPlan
   pub planned : IsAskedPlan asked known path holds told
+  pub looked : Seen
+  pub looking : IsLooking known path holds a looked
   pub read_between : ℕ
   pub later : read_before ≤ read_between
   pub cause : IsStopped asked.format path told.plan holds read_between read_now given now put_before put_now why
-  pub silent : b ≡ a
+  pub silent : b ≡ looked
 
 abbrev pub IsNoSoughtReport : Asked → Known → List ℕ → Option (List ℕ) → ℕ → ℕ → Option (List ℕ) → Option (List ℕ)
     → ℕ → ℕ → Seen → Seen → Failure → Type 0

@@ -1,8 +1,10 @@
 pub mod Failures
 pub mod ReadOnly
 pub mod Messages
+pub mod Looking
 pub mod Plans
 pub mod Images
+pub mod Boots
 pub mod Logs
 pub mod Packed
 pub mod Storages

@@ -1,21 +1,17 @@
--- An image that is a text log: the report of the region that holds its last boot
-use Rattle.std.specs.Prelude.{◌≡◌, ◌⊎◌, ⊤, ℕ, ◌+◌, ◌-◌, ◌^◌, ◌==◌, nat_lt, Bool, true, false, not, if◌then◌else◌}
+-- An image that is a text log: its text, its boots, and their reports
+use Rattle.std.specs.Prelude.{⊤, ℕ, ◌+◌, ◌-◌, ◌^◌, ◌==◌, nat_lt, Bool, true, false, not, if◌then◌else◌}
 use Rattle.std.specs.Prelude.{List, length, take, drop, Option, Some, None, IfSome}
 use Rattle.std.specs.List.{prefix_len}
 use Rattle.outside.specs.Outside.{Rose}
 use Rattle.text_log_spec.specs.Boots.{IsTextLog}
-use Rattle.log_image.specs.declared.LogImage.{LogImage}
-use Rattle.log_image.specs.Images.{IsLogImage}
 use Rattle.region_report.specs.Reports.{ReportHeld}
-use Rattle.report_tool.specs.Images.{IsReported}
+use Rattle.report_run.specs.declared.boots.HeldLog.{HeldLog}
 use Rattle.report_run.specs.declared.plans.Asked.{Asked}
 use Rattle.report_run.specs.declared.plans.Logs.{Logs}
 use Rattle.report_run.specs.declared.plans.Logs.TheVariants.{Never, Texts, All}
 use Rattle.report_run.specs.declared.failures.Failure.{Failure}
 use Rattle.report_run.specs.declared.failures.Failure.TheVariants.{Memory, Unread}
-use Rattle.report_run.specs.Images.{IsStoppedAt}
-use Rattle.report_run.specs.Messages.{Seen}
-use Rattle.report_run.specs.Plans.{dressed, map_of}
+use Rattle.report_run.specs.Boots.{IsTextHeld, IsLogShown, IsLogUnshown}
 
 -- so many bytes tell whether an image is a text
 abbrev pub front_len : ℕ
@@ -57,12 +53,15 @@ text_in is_cut bytes = if is_cut then whole_lines bytes else bytes
 abbrev pub log_text : List ℕ → List ℕ
 log_text image = text_in (nat_lt most_log (length image)) (drop (length image - most_log) image)
 
--- the image's log as a region
-pub record IsHeldLog (logs : Logs) (holds : Option (List ℕ)) (l : LogImage) : Type 0 where
-  pub is_log : IsLog logs holds
-  pub image : IfSome holds (λ image. IsLogImage (log_text image) l)
+-- the image's log
+abbrev pub IsLogOf : List ℕ → HeldLog → Type 0
+IsLogOf image l = IsTextHeld (log_text image) (length image - length (log_text image)) l
 
-abbrev pub IsLooked : Logs → Option (List ℕ) → Option LogImage → Type 0
+pub record IsHeldLog (logs : Logs) (holds : Option (List ℕ)) (l : HeldLog) : Type 0 where
+  pub is_log : IsLog logs holds
+  pub held : IfSome holds (λ image. IsLogOf image l)
+
+abbrev pub IsLooked : Logs → Option (List ℕ) → Option HeldLog → Type 0
 IsLooked logs holds None = IsNoLog logs holds
 IsLooked logs holds (Some l) = IsHeldLog logs holds l
 
@@ -72,24 +71,16 @@ IsUnlooked before now Memory = ⊤
 IsUnlooked before now Unread = Rose before now
 IsUnlooked before now other = ⊥
 
--- the report of that region
+-- the report of that log
 pub record IsLogReport (asked : Asked) (path : List ℕ) (holds given now : Option (List ℕ)) (report : ReportHeld)
     : Type 0 where
-  pub log : LogImage
+  pub log : HeldLog
   pub held : IsHeldLog asked.logs holds log
-  pub reported : IsReported asked.format path (dressed log.plan asked.lines (map_of asked.map))
-      (Some log.region.items) given now report
+  pub reported : IsLogShown asked path log given now report
 
--- it was not reported: memory ran out before, or it stopped
-abbrev pub IsLogUnreported : Asked → List ℕ → LogImage → Option (List ℕ) → Option (List ℕ) → ℕ → ℕ → Failure → Type 0
-IsLogUnreported asked path log given now put_before put_now why =
-    ((why ≡ Memory) × (now ≡ given))
-    ⊎ IsStoppedAt asked.format path (dressed log.plan asked.lines (map_of asked.map)) log.region.items given now
-    put_before put_now why
-
--- why an image that may be a log was not reported as one
+-- why an image that is a text log was not reported, or not all of it
 pub record IsHeldUnreported (asked : Asked) (path : List ℕ) (holds given now : Option (List ℕ))
     (put_before put_now : ℕ) (why : Failure) : Type 0 where
-  pub log : LogImage
+  pub log : HeldLog
   pub held : IsHeldLog asked.logs holds log
-  pub cause : IsLogUnreported asked path log given now put_before put_now why
+  pub cause : IsLogUnshown asked path log given now put_before put_now why

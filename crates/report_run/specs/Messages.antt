@@ -59,6 +59,10 @@ IsEnded false all a b = b ≡ a
 abbrev pub line_of : List ℕ → List ℕ → List (List ℕ)
 line_of path why = codes "oopsreport: " ∷ path ∷ codes ": " ∷ why ∷ (10 ∷ []) ∷ []
 
+-- the line on a search that is not at its end after a little work
+abbrev pub slow_line : List ℕ → List (List ℕ)
+slow_line path = line_of path (codes "looking for its layout takes longer than usual")
+
 abbrev pub short_line : List ℕ → ℕ → ℕ → List (List ℕ)
 short_line path has needed =
     codes "oopsreport: " ∷ path ∷ codes ": it has " ∷ decimal has ∷ codes " bytes, and the layout needs "

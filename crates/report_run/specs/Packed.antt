@@ -2,18 +2,16 @@
 use Rattle.std.specs.Prelude.{◌≡◌, ◌⊎◌, ⊤, ℕ, ◌<◌, Bool, true, false, ◌&&◌, List, length, take, Option, Some, IfSome}
 use Rattle.outside.specs.Outside.{Rose}
 use Rattle.packed_record.specs.Packed.{is_packed_name, stream_of, IsText}
-use Rattle.log_image.specs.Images.{IsLogImage}
 use Rattle.region_report.specs.Reports.{ReportHeld}
-use Rattle.report_tool.specs.Images.{IsReported}
 use Rattle.report_run.specs.declared.plans.Asked.{Asked}
 use Rattle.report_run.specs.declared.plans.Logs.{Logs}
 use Rattle.report_run.specs.declared.plans.Logs.TheVariants.{Never}
 use Rattle.report_run.specs.declared.packed.PackedLog.{PackedLog}
 use Rattle.report_run.specs.declared.failures.Failure.{Failure}
 use Rattle.report_run.specs.declared.failures.Failure.TheVariants.{Memory, Unread, NoText}
-use Rattle.report_run.specs.Logs.{most_log, IsLogUnreported}
+use Rattle.report_run.specs.Boots.{IsTextHeld, IsLogShown, IsLogUnshown}
+use Rattle.report_run.specs.Logs.{most_log}
 use Rattle.report_run.specs.Messages.{Seen, IsPartTold}
-use Rattle.report_run.specs.Plans.{dressed, map_of}
 use Rattle.report_spec.specs.declared.TextFault.{TextFault}
 
 abbrev pub takes_logs : Logs → Bool
@@ -30,11 +28,11 @@ pub record HasText (holds : Option (List ℕ)) (fault : Option TextFault) (text 
   pub are : IfSome holds (λ image. bytes ≡ take most_log image)
   pub is_text : IsText fault (stream_of bytes) most_log text
 
--- as a log, whose last boot is a region
+-- as a log; its boots are named by their places in the text
 pub record IsPackedLog (holds : Option (List ℕ)) (packed : PackedLog) : Type 0 where
   pub text : List ℕ
   pub has_text : HasText holds packed.fault text
-  pub is_log : IsLogImage text packed.log
+  pub is_log : IsTextHeld text 0 packed.log
 
 pub record HasNoText (holds : Option (List ℕ)) : Type 0 where
   pub fault : Option TextFault
@@ -49,14 +47,13 @@ IsUninflated holds before now Unread = Rose before now
 IsUninflated holds before now NoText = HasNoText holds
 IsUninflated holds before now other = ⊥
 
--- the report of that region, behind the line on what does not inflate
+-- the report of that log, behind the line on what does not inflate
 pub record IsPackedReport (asked : Asked) (path : List ℕ) (holds given now : Option (List ℕ)) (a b : Seen)
     (report : ReportHeld) : Type 0 where
   pub packed : PackedLog
   pub is_log : IsPackedLog holds packed
   pub told : IsPartTold path packed.fault a b
-  pub reported : IsReported asked.format path (dressed packed.log.plan asked.lines (map_of asked.map))
-      (Some packed.log.region.items) given now report
+  pub reported : IsLogShown asked path packed.log given now report
 
 -- there is no text: nothing was given out
 pub record IsPackedUnread (holds : Option (List ℕ)) (read_before read_now : ℕ) (given now : Option (List ℕ))
@@ -71,7 +68,7 @@ pub record IsPackedUnreported (asked : Asked) (path : List ℕ) (holds given now
   pub packed : PackedLog
   pub is_log : IsPackedLog holds packed
   pub told : IsPartTold path packed.fault a b
-  pub cause : IsLogUnreported asked path packed.log given now put_before put_now why
+  pub cause : IsLogUnshown asked path packed.log given now put_before put_now why
 
 abbrev pub IsNoPackedReport : Asked → List ℕ → Option (List ℕ) → ℕ → ℕ → Option (List ℕ) → Option (List ℕ) → ℕ → ℕ
     → Seen → Seen → Failure → Type 0

@@ -8,8 +8,9 @@ ghost use Rattle.report_run.specs.Reports.{IsUnlaidReport, IsNoUnlaidReport};
 ghost use Rattle.report_run.specs.Packed.{is_packed};
 ghost use Rattle.report_tool.specs.Images.{IsReported};
 
+use crate::boots::report_log;
 use crate::failures::{Failure, stop_failure};
-use crate::logs::{held_log, report_log};
+use crate::logs::held_log;
 use crate::messages::Messages;
 use crate::packed::{is_packed, report_packed};
 use crate::plans::{Asked, sought_plan};
@@ -93,7 +94,7 @@ fn sought_report<M: Load, O: Sink, E: Sink>(
     ensures same { M.holds image.new ≡ M.holds image.old }
     ensures later { M.faults image.old ≤ M.faults image.new }
 {
-    let told = sought_plan(alloc, asked, known, path, image)?;
+    let told = sought_plan(alloc, asked, known, path, image, messages)?;
     let report = report_by(alloc, &told.plan, asked.format, path, image, out)?;
     tell_layout(asked.format, &told.hint, out, messages)?;
     Ok(report)
@@ -149,7 +150,7 @@ fn unknown_report<M: Load, O: Sink, E: Sink>(
     ensures later { M.faults image.old ≤ M.faults image.new }
 {
     match held_log(alloc, asked.logs, image) {
-        Ok(Some(log)) => report_log(alloc, asked, log, path, out),
+        Ok(Some(log)) => report_log(alloc, asked, &log, path, out),
         Ok(None) => unlogged_report(alloc, asked, known, path, image, out, messages),
         Err(why) => Err(why),
     }
@@ -186,7 +187,8 @@ fn unlaid_report<M: Load, O: Sink, E: Sink>(
 
 /// The report of an image: what the format shows, and then the lines on its layout, where that is looked for. A text has
 /// the lines below it; for JSON and a page standard error is given them. A text log is reported as the region that holds
-/// it, as is the text of a packed record, and a storage of the kernel's pstore_zone as such.
+/// its last boot, and then the boots before it, as is the text of a packed record, and a storage of the kernel's
+/// pstore_zone as such.
 pub fn report_image<M: Load, O: Sink, E: Sink>(
     alloc: Global,
     asked: &Asked,

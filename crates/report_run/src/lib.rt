@@ -2,6 +2,7 @@
 //! error, which files are made, and the status. The files, the two outputs and the folder are the caller's.
 #![tactic(auto)]
 
+mod boots;
 mod choosing;
 mod failures;
 mod images;

@@ -1,22 +1,15 @@
 // An image that is a text log.
-ghost use Rattle.std.specs.Prelude.{◌≡◌, ◌≤◌, length, drop, Some, IfSome, IfOk, IfErr, MatchResult};
-ghost use Rattle.report_run.specs.Images.{IsStopped};
-ghost use Rattle.report_run.specs.Plans.{dressed as dressed_as, map_of};
-ghost use Rattle.report_run.specs.Logs.{IsSeenLog, is_inside, line_len, whole_lines, text_in, log_text, IsLooked};
-ghost use Rattle.report_run.specs.Logs.{IsUnlooked, IsLogUnreported};
-ghost use Rattle.log_image.specs.Images.{IsLogImage};
-ghost use Rattle.report_tool.specs.Images.{IsReported};
+ghost use Rattle.std.specs.Prelude.{◌≡◌, ◌≤◌, length, drop, IfSome, IfOk, IfErr};
+ghost use Rattle.report_run.specs.Logs.{IsSeenLog, is_inside, line_len, whole_lines, text_in, IsLogOf, IsLooked};
+ghost use Rattle.report_run.specs.Logs.{IsUnlooked};
 
+use crate::boots::{HeldLog, held_text};
 use crate::failures::{Failure, stop_failure, unread_failure};
-use crate::images::report_by;
-use crate::plans::{Asked, Logs, dressed};
-use crate::read_only::ReadOnly;
+use crate::plans::Logs;
 use image_file::load_front;
-use log_image::{LogImage, log_image};
 use memory_regions::window;
-use outside::{Load, Sink};
-use region_report::Report;
-use std::alloc::Global;
+use outside::Load;
+use std::alloc::{AllocError, Global};
 use text_log::is_text_log;
 
 /// So many bytes tell whether an image is a text.
@@ -92,15 +85,19 @@ fn whole_lines(text: &[u8]) -> &[u8]
 }
 
 // The text in a log's last bytes, or in all of it.
-fn text_in(is_cut: bool, bytes: &[u8]) -> &[u8]
-    ensures { result.now ≡ text_in is_cut bytes.now }
+fn text_in(alloc: Global, is_cut: bool, bytes: Vec<u8>) -> Result<Vec<u8>, AllocError>
+    ensures { IfOk result (λ text. text.items ≡ text_in is_cut bytes.items) }
 {
-    if is_cut { whole_lines(bytes) } else { bytes }
+    if is_cut {
+        Vec::from_slice(alloc, whole_lines(&bytes))
+    } else {
+        Ok(bytes)
+    }
 }
 
-// A log as a region.
-fn log_of<M: Load>(alloc: Global, image: &mut M) -> Result<LogImage, Failure>
-    ensures image { IfOk result (λ l. IfSome (M.holds image.old) (λ bs. IsLogImage (log_text bs) l)) }
+// A log, its place in the image, and its boots.
+fn log_of<M: Load>(alloc: Global, image: &mut M) -> Result<HeldLog, Failure>
+    ensures held { IfOk result (λ l. IfSome (M.holds image.old) (λ bs. IsLogOf bs l)) }
     ensures unlooked { IfErr result (IsUnlooked (M.faults image.old) (M.faults image.new)) }
     ensures same { M.holds image.new ≡ M.holds image.old }
     ensures later { M.faults image.old ≤ M.faults image.new }
@@ -112,16 +109,18 @@ fn log_of<M: Load>(alloc: Global, image: &mut M) -> Result<LogImage, Failure>
         Ok(bytes) => bytes,
         Err(unread) => return Err(unread_failure(unread)),
     };
-    let log = log_image(alloc, text_in(size > MOST, &bytes))?;
+    let text = text_in(alloc, size > MOST, bytes)?;
+    let base = size.saturating_sub(text.len() as u64);
+    let log = held_text(alloc, text, base)?;
     Ok(log)
 }
 
-/// The log that an image is, if logs are looked for, as a region whose console holds its last boot.
+/// The log that an image is, if logs are looked for.
 pub fn held_log<M: Load>(
     alloc: Global,
     logs: Logs,
     image: &mut M,
-) -> Result<Option<LogImage>, Failure>
+) -> Result<Option<HeldLog>, Failure>
     ensures looked { IfOk result (IsLooked logs (M.holds image.old)) }
     ensures unlooked { IfErr result (IsUnlooked (M.faults image.old) (M.faults image.new)) }
     ensures same { M.holds image.new ≡ M.holds image.old }
@@ -132,28 +131,4 @@ pub fn held_log<M: Load>(
     }
     let log = log_of(alloc, image)?;
     Ok(Some(log))
-}
-
-/// The report of that region.
-pub fn report_log<O: Sink>(
-    alloc: Global,
-    asked: &Asked,
-    log: LogImage,
-    path: &str,
-    out: &mut O,
-) -> Result<Report, Failure>
-    ensures reported { MatchResult result
-        (IsReported asked.now.format path.now (dressed_as log.plan asked.now.lines (map_of asked.now.map))
-        (Some log.region.items) (O.given out.old) (O.given out.new))
-        (IsLogUnreported asked.now path.now log (O.given out.old) (O.given out.new) (O.faults out.old)
-        (O.faults out.new)) }
-{
-    let LogImage {
-        plan,
-        region,
-        boots: _,
-    } = log;
-    let plan = dressed(alloc, plan, asked.lines, &asked.map)?;
-    let mut image = ReadOnly::new(region);
-    report_by(alloc, &plan, asked.format, path, &mut image, out)
 }

@@ -2,7 +2,7 @@
 ghost use Rattle.std.specs.Prelude.{◌≡◌, [], ◌∷◌, codes, false};
 ghost use Rattle.report_run.specs.Messages.{seen, IsTold, AreTold, place_line, IsCounted, IsEnded, line_of, short_line};
 ghost use Rattle.report_run.specs.Messages.{beyond_line, several_line, part_line, IsPartTold, undivided_line};
-ghost use Rattle.report_run.specs.Messages.{IsBestTold, IsMessage};
+ghost use Rattle.report_run.specs.Messages.{IsBestTold, IsMessage, slow_line};
 
 use crate::failures::Failure;
 use itoa::Buffer;
@@ -89,6 +89,15 @@ impl<E: Sink> Messages<E> {
         self.tell(b": ");
         self.tell(why.as_bytes());
         self.tell(b"\n");
+    }
+
+    /// That the search for an image's layout is not at its end after a little work.
+    pub fn tell_slow(&mut self, path: &str)
+        ensures { AreTold (slow_line path.now)
+            (seen (E.given self.old.errors) (E.faults self.old.errors) self.old.is_lost)
+            (seen (E.given self.new.errors) (E.faults self.new.errors) self.new.is_lost) }
+    {
+        self.tell_line(path, "looking for its layout takes longer than usual");
     }
 
     // The line on an image that is too short.

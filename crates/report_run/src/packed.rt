@@ -1,17 +1,15 @@
 // A record that pstore left packed: the report of its text.
-ghost use Rattle.std.specs.Prelude.{◌≡◌, ◌≤◌, Some, IfOk, IfErr, MatchResult};
-ghost use Rattle.report_tool.specs.Images.{IsReported};
+ghost use Rattle.std.specs.Prelude.{◌≡◌, ◌≤◌, IfOk, IfErr, MatchResult};
 ghost use Rattle.report_run.specs.Messages.{seen};
-ghost use Rattle.report_run.specs.Plans.{dressed as dressed_as, map_of};
 ghost use Rattle.report_run.specs.Packed.{takes_logs, is_packed, IsPackedLog, IsUninflated, IsPackedReport};
 ghost use Rattle.report_run.specs.Packed.{IsNoPackedReport};
 
+use crate::boots::{HeldLog, held_text, report_log};
 use crate::failures::{Failure, stop_failure};
-use crate::logs::{MOST_LOG, report_log};
+use crate::logs::MOST_LOG;
 use crate::messages::Messages;
 use crate::plans::{Asked, Logs};
 use image_file::load_front;
-use log_image::{LogImage, log_image};
 use outside::{Load, Sink};
 use packed_record::{PackedText, is_packed_name, packed_text};
 use region_report::{Report, TextFault};
@@ -34,10 +32,10 @@ pub fn is_packed(logs: Logs, path: &str) -> bool
     takes_logs(logs) && is_packed_name(path)
 }
 
-/// A packed record's text as a region, and why no more of it inflates.
+/// A packed record's text as a log, and why no more of it inflates.
 #[derive(Drop)]
 pub struct PackedLog {
-    pub log: LogImage,
+    pub log: HeldLog,
     pub fault: Option<TextFault>,
 }
 
@@ -55,7 +53,7 @@ fn packed_log<M: Load>(alloc: Global, image: &mut M) -> Result<PackedLog, Failur
     if text.is_empty() {
         return Err(Failure::NoText);
     }
-    let log = log_image(alloc, &text)?;
+    let log = held_text(alloc, text, 0)?;
     Ok(PackedLog { log, fault })
 }
 
@@ -81,5 +79,5 @@ pub fn report_packed<M: Load, O: Sink, E: Sink>(
 {
     let PackedLog { log, fault } = packed_log(alloc, image)?;
     messages.tell_part(path, fault);
-    report_log(alloc, asked, log, path, out)
+    report_log(alloc, asked, &log, path, out)
 }

@@ -1,16 +1,27 @@
 // The plan by which an image is read whose layout is looked for.
-ghost use Rattle.std.specs.Prelude.{◌≡◌, ◌≤◌, IfOk, MatchResult};
+ghost use Rattle.std.specs.Prelude.{◌≡◌, ◌≤◌, take, IfOk, IfErr, IfSome, MatchResult};
 ghost use Rattle.std.specs.Option.{option_copied};
+ghost use Rattle.zone_spec.specs.Numbers.{most_memory};
+ghost use Rattle.layout_search.specs.Answers.{IsSearched};
+ghost use Rattle.report_run.specs.Messages.{seen};
+ghost use Rattle.report_run.specs.Looking.{is_unfinished, IsLook, MayLookAt, IsLooking, MayLook};
+ghost use Rattle.report_run.specs.Logs.{IsUnlooked};
 ghost use Rattle.report_run.specs.Plans.{format_for, dressed, map_of};
 ghost use Rattle.report_run.specs.Plans.{untaken_failure, IsSoughtPlan, IsNotSought, IsAskedPlan};
 
 use crate::failures::{Failure, stop_failure};
-use outside::Load;
+use crate::messages::Messages;
+use image_file::load_front;
+use layout_search::{FEW, Found, search, search_within};
+use outside::{Load, Sink};
 use report_entry::{HintedPlan, Layouts, Refusal, plan_found};
-use report_tool::{Format, Known, Plan, find};
+use report_tool::{Format, Known, Plan};
 use std::alloc::{AllocError, Global};
 use storage_words::Storages;
 use symbols::Symbols;
+
+/// A layout has at most so many bytes.
+const MOST: u32 = 16_777_216;
 
 /// A copy of all of a machine's memory.
 #[derive(Clone, Copy)]
@@ -99,25 +110,97 @@ fn untaken_failure(why: Refusal) -> Failure
     }
 }
 
-// The plan of the layout that the image shows.
-fn found_plan<M: Load>(
+fn is_unfinished(found: &Option<Found>) -> bool
+    ensures { result ≡ is_unfinished found.now }
+{
+    match found {
+        Some(found) => !found.whole,
+        None => false,
+    }
+}
+
+// The layout that bytes show. A search that is not at its end after a little work is told, and begun again with more.
+fn layout_of<E: Sink>(
+    alloc: Global,
+    known: &Known,
+    path: &str,
+    bytes: &[u8],
+    messages: &mut Messages<E>,
+) -> Result<Option<Found>, AllocError>
+    ensures found { IfOk result (IsSearched known.now bytes.now) }
+    ensures looked { MatchResult result
+        (λ _. IsLook known.now path.now bytes.now
+        (seen (E.given messages.old.errors) (E.faults messages.old.errors) messages.old.is_lost)
+        (seen (E.given messages.new.errors) (E.faults messages.new.errors) messages.new.is_lost))
+        (λ _. MayLookAt known.now path.now bytes.now
+        (seen (E.given messages.old.errors) (E.faults messages.old.errors) messages.old.is_lost)
+        (seen (E.given messages.new.errors) (E.faults messages.new.errors) messages.new.is_lost)) }
+{
+    let few = search_within(alloc, bytes, known, FEW)?;
+    if is_unfinished(&few) {
+        messages.tell_slow(path);
+        search(alloc, bytes, known)
+    } else {
+        Ok(few)
+    }
+}
+
+// The layout that the image's first 16 MiB show.
+fn layout_in<M: Load, E: Sink>(
     alloc: Global,
     known: &Known,
     path: &str,
     image: &mut M,
+    messages: &mut Messages<E>,
+) -> Result<Option<Found>, Failure>
+    ensures found { IfOk result (λ found. IfSome (M.holds image.old) (λ bs.
+        IsSearched known.now (take most_memory bs) found)) }
+    ensures unfound { IfErr result (IsUnlooked (M.faults image.old) (M.faults image.new)) }
+    ensures looked { MatchResult result
+        (λ _. IsLooking known.now path.now (M.holds image.old)
+        (seen (E.given messages.old.errors) (E.faults messages.old.errors) messages.old.is_lost)
+        (seen (E.given messages.new.errors) (E.faults messages.new.errors) messages.new.is_lost))
+        (λ _. MayLook known.now path.now (M.holds image.old)
+        (seen (E.given messages.old.errors) (E.faults messages.old.errors) messages.old.is_lost)
+        (seen (E.given messages.new.errors) (E.faults messages.new.errors) messages.new.is_lost)) }
+    ensures same { M.holds image.new ≡ M.holds image.old }
+    ensures later { M.faults image.old ≤ M.faults image.new }
+{
+    let bytes = match load_front(alloc, image, MOST) {
+        Ok(bytes) => bytes,
+        Err(stop) => return Err(stop_failure(stop)),
+    };
+    match layout_of(alloc, known, path, &bytes, messages) {
+        Ok(found) => Ok(found),
+        Err(_) => Err(Failure::Memory),
+    }
+}
+
+// The plan of the layout that the image shows.
+fn found_plan<M: Load, E: Sink>(
+    alloc: Global,
+    known: &Known,
+    path: &str,
+    image: &mut M,
+    messages: &mut Messages<E>,
 ) -> Result<HintedPlan, Failure>
     ensures planned { MatchResult result (IsSoughtPlan known.now path.now (M.holds image.old))
         (IsNotSought known.now path.now (M.holds image.old) (M.faults image.old) (M.faults image.new)) }
+    ensures looked { MatchResult result
+        (λ _. IsLooking known.now path.now (M.holds image.old)
+        (seen (E.given messages.old.errors) (E.faults messages.old.errors) messages.old.is_lost)
+        (seen (E.given messages.new.errors) (E.faults messages.new.errors) messages.new.is_lost))
+        (λ _. MayLook known.now path.now (M.holds image.old)
+        (seen (E.given messages.old.errors) (E.faults messages.old.errors) messages.old.is_lost)
+        (seen (E.given messages.new.errors) (E.faults messages.new.errors) messages.new.is_lost)) }
     ensures same { M.holds image.new ≡ M.holds image.old }
     ensures later { M.faults image.old ≤ M.faults image.new }
 {
     let Ok(size) = image.size() else {
         return Err(Failure::Unread);
     };
-    let found = match find(alloc, image, known) {
-        Ok(Some(found)) => found,
-        Ok(None) => return Err(Failure::NotFound),
-        Err(stop) => return Err(stop_failure(stop)),
+    let Some(found) = layout_in(alloc, known, path, image, messages)? else {
+        return Err(Failure::NotFound);
     };
     match plan_found(alloc, path, size, &found) {
         Ok(told) => Ok(told),
@@ -125,20 +208,29 @@ fn found_plan<M: Load>(
     }
 }
 
-/// The plan of the layout that the image shows, with the lines and the functions that are asked for.
-pub fn sought_plan<M: Load>(
+/// The plan of the layout that the image shows, with the lines and the functions that are asked for. A search that takes
+/// long is told on standard error, once.
+pub fn sought_plan<M: Load, E: Sink>(
     alloc: Global,
     asked: &Asked,
     known: &Known,
     path: &str,
     image: &mut M,
+    messages: &mut Messages<E>,
 ) -> Result<HintedPlan, Failure>
     ensures planned { MatchResult result (IsAskedPlan asked.now known.now path.now (M.holds image.old))
         (IsNotSought known.now path.now (M.holds image.old) (M.faults image.old) (M.faults image.new)) }
+    ensures looked { MatchResult result
+        (λ _. IsLooking known.now path.now (M.holds image.old)
+        (seen (E.given messages.old.errors) (E.faults messages.old.errors) messages.old.is_lost)
+        (seen (E.given messages.new.errors) (E.faults messages.new.errors) messages.new.is_lost))
+        (λ _. MayLook known.now path.now (M.holds image.old)
+        (seen (E.given messages.old.errors) (E.faults messages.old.errors) messages.old.is_lost)
+        (seen (E.given messages.new.errors) (E.faults messages.new.errors) messages.new.is_lost)) }
     ensures same { M.holds image.new ≡ M.holds image.old }
     ensures later { M.faults image.old ≤ M.faults image.new }
 {
-    let HintedPlan { plan, hint } = found_plan(alloc, known, path, image)?;
+    let HintedPlan { plan, hint } = found_plan(alloc, known, path, image, messages)?;
     let plan = dressed(alloc, plan, asked.lines, &asked.map)?;
     Ok(HintedPlan { plan, hint })
 }

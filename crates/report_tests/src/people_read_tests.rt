@@ -26,15 +26,19 @@ const ENTRIES: &str =
 \"priority\":\"I\",\"seconds\":951782400,\"tag\":\"boot\",\"text\":\"done\",\"tid\":45678,\"uid\":0}]";
 
 const FTRACE: &[u8] =
-    b"\0\x10\0\x81\xff\xff\xff\xff\x1f \0\x81\xff\xff\xff\xff\0g\x12\0\0\0\0\0\x10\0\0\0\0\0\0\0\0\0\0\0\0\0\0\0\x03h\x12\0\0\0\0\0";
+    b"\0\x10\0\x81\xff\xff\xff\xff\x1f \0\x81\xff\xff\xff\xff\0g\x12\0\0\0\0\0\x10\0\0\0\0\0\0\0\0\0\0\0\0\0\0\0\x03h\x12\0\0\0\0\0\
+\xff\x1f\x10\x81\xff\xff\xff\xff\0 \x10\x81\xff\xff\xff\xff\0\x01\0\0\0\0\0\0\
+\x01\x10\0\x81\xff\xff\xff\xff\xfe\x1f\0\x81\xff\xff\xff\xff\0\x02\0\0\0\0\0\0";
 
 const MAP: &[u8] = b"ffffffff81002000 t run_work\n0000000000000010 D data\n\
 ffffffff81001000 T do_work\t[usbcore]\nffffffff81001000 T alias\n";
 
 // As the kernel prints it (`CPU:%d ts:%llu %08lx  %08lx  %ps <- %pS`), but for the size of the caller.
 const TRACE: &str = "\
-CPU:0 ts:4711 ffffffff81001000  ffffffff8100201f  do_work <- run_work+0x1f
+CPU:0 ts:4711 ffffffff81001000  ffffffff8100201f  do_work [usbcore] <- run_work+0x1f
 CPU:3 ts:4712 00000010  00000000  0x10 <- 0x0
+CPU:0 ts:1 ffffffff81101fff  ffffffff81102000  run_work <- 0xffffffff81102000
+CPU:0 ts:2 ffffffff81001001  ffffffff81001ffe  do_work [usbcore] <- do_work+0xffe [usbcore]
 ";
 
 fn params(pmsg: u64, ftrace: u64) -> Params {

@@ -250,3 +250,52 @@ fn packed_records(rt: HostRuntime) -> Result<(), Fail> {
     }
     Ok(())
 }
+
+// A log of three boots, which begin at byte 0, at byte 82 and at byte 158.
+const THREE_BOOTS: &str = "\
+[    0.000000] Linux version 6.1.0
+[    5.000000] Kernel panic - not syncing: one
+[    0.000000] Linux version 6.1.0
+[    6.000000] reboot: Restarting system
+[    0.000000] Linux version 6.1.0
+[    7.000000] Kernel panic - not syncing: three
+";
+
+fn run_on_boots(alloc: Global, format: Format) -> Result<Done, Fail> {
+    let asked = asked(known(&[]), format, Logs::Texts, None, false);
+    run_on(
+        alloc,
+        &asked,
+        Vec::from_slice(alloc, THREE_BOOTS.as_bytes())?,
+    )
+}
+
+// The boots before the last are told from the newest to the oldest, each by its place.
+#[test]
+fn boots_before_the_last(rt: HostRuntime) -> Result<(), Fail> {
+    let done = run_on_boots(rt.alloc(), Format::Text)?;
+    let text = str::from_utf8(&done.out)?;
+    assert!(rt; text.starts_with("died: Kernel panic - not syncing: three\n"));
+    assert!(rt; text.ends_with(
+        "file@0x52  -  no death: an orderly restart\nfile@0x0  -  kernel panic: one\n"
+    ));
+    assert!(rt; done.errors.is_empty() && !done.has_failed);
+    Ok(())
+}
+
+// JSON has a line for each boot; a page and one line have the last boot alone.
+#[test]
+fn boots_in_other_formats(rt: HostRuntime) -> Result<(), Fail> {
+    let done = run_on_boots(rt.alloc(), Format::Json)?;
+    let text = str::from_utf8(&done.out)?;
+    for (line, path) in text.lines().zip(["file", "file@0x52", "file@0x0"]) {
+        let member = format!(in rt.alloc(); "\"path\":\"{path}\"")?;
+        assert!(rt; line.contains(member.as_str()), "{line}");
+    }
+    assert!(rt; text.lines().count() == 3);
+    let done = run_on_boots(rt.alloc(), Format::Brief)?;
+    assert!(rt; done.out.as_slice() == b"file  -  kernel panic: three\n".as_slice());
+    let done = run_on_boots(rt.alloc(), Format::Html)?;
+    assert!(rt; !str::from_utf8(&done.out)?.contains("file@"));
+    Ok(())
+}

@@ -60,3 +60,12 @@ symbols_of text = unless_hidden (symbols_from true 0 text)
 -- a name
 abbrev pub name_at : List ℕ → ℕ → List ℕ
 name_at text at = take (prefix_len is_of_name (drop at text)) (drop at text)
+
+-- the module of the function whose name begins there, in its brackets; nothing for a function of the kernel itself
+abbrev pub bracketed : List ℕ → List ℕ
+bracketed text =
+    if (slice_index text 0 == 9) && (slice_index text 1 == 91) then take (prefix_len is_of_name (drop 1 text)) (drop 1 text)
+    else []
+
+abbrev pub module_at : List ℕ → ℕ → List ℕ
+module_at text at = bracketed (drop (prefix_len is_of_name (drop at text)) (drop at text))

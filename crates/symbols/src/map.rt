@@ -5,7 +5,7 @@ ghost use Rattle.std.specs.List.{list_any, prefix_len};
 ghost use Rattle.symbol_spec.specs.Maps.{is_digit as is_digit_byte, digit_value as value_of, number_after as number_of};
 ghost use Rattle.symbol_spec.specs.Maps.{digits as digits_of, is_type as is_type_byte, is_of_name as is_name_byte};
 ghost use Rattle.symbol_spec.specs.Maps.{is_typed as is_typed_text, is_symbol as is_symbol_text, symbol_of, symbol_if};
-ghost use Rattle.symbol_spec.specs.Maps.{symbols_from, symbols_of, name_at as name_of};
+ghost use Rattle.symbol_spec.specs.Maps.{symbols_from, symbols_of, name_at as name_of, bracketed, module_at as module_of};
 ghost use Rattle.symbols.specs.Ranks.{IsInside};
 
 use std::alloc::{AllocError, Global};
@@ -152,14 +152,41 @@ pub fn symbols(alloc: Global, text: &[u8]) -> Result<Vec<Symbol>, AllocError>
     }
 }
 
+/// How many bytes at the front are of a name.
+fn name_len(text: &[u8]) -> usize
+    ensures len { result ≡ prefix_len is_name_byte text.now }
+    ensures within { result ≤ length text.now }
+{
+    let mut len = 0;
+    'bytes: while len < text.len() && is_of_name(text[len]) {
+        len += 1;
+    }
+    len
+}
+
 /// The name that begins at a place of the map.
 pub fn name_at(text: &[u8], at: usize) -> &[u8]
     ensures { result.now ≡ name_of text.now at }
 {
     let rest = tail(text, at);
-    let mut len = 0;
-    'bytes: while len < rest.len() && is_of_name(rest[len]) {
-        len += 1;
+    &rest[..name_len(rest)]
+}
+
+fn bracketed(text: &[u8]) -> &[u8]
+    ensures { result.now ≡ bracketed text.now }
+{
+    if byte_at(text, 0) == b'\t' && byte_at(text, 1) == b'[' {
+        let rest = tail(text, 1);
+        &rest[..name_len(rest)]
+    } else {
+        &[]
     }
-    &rest[..len]
+}
+
+/// The module of the function whose name begins at a place of the map, in brackets; nothing if it is of none.
+pub fn module_at(text: &[u8], at: usize) -> &[u8]
+    ensures { result.now ≡ module_of text.now at }
+{
+    let rest = tail(text, at);
+    bracketed(tail(rest, name_len(rest)))
 }

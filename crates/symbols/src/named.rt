@@ -1,9 +1,9 @@
 // A map, and its functions by their addresses.
 ghost use Rattle.std.specs.Prelude.{◌≡◌, ℕ, [], IfOk};
-ghost use Rattle.symbol_spec.specs.Maps.{name_at as name_of};
-ghost use Rattle.symbol_spec.specs.Functions.{function_of};
+ghost use Rattle.symbol_spec.specs.Maps.{name_at as name_of, module_at as module_of, symbols_of};
+ghost use Rattle.symbol_spec.specs.Functions.{function_in, function_of, unless_far};
 
-use crate::map::name_at;
+use crate::map::{module_at, name_at};
 use crate::table::{Table, no_table, symbol_table};
 use std::alloc::{AllocError, Global};
 use std::marker::Model;
@@ -18,13 +18,27 @@ pub struct Symbols {
 
 impl Model for Symbols {
     ghost use Rattle.std.specs.Prelude.{ℕ, List, ◌≡◌};
-    ghost use Rattle.symbol_spec.specs.Functions.{function_in, function_of};
+    ghost use Rattle.symbol_spec.specs.Functions.{function_in};
+    ghost use Rattle.symbol_spec.specs.Maps.{symbols_of};
 
     ghost Value = { List ℕ };
 
     ghost view = { λ s. s.map.items };
 
-    ghost invariant = { λ s. (address : ℕ) → function_in s.table address ≡ function_of s.map.items address };
+    ghost invariant = { λ s. (address : ℕ) → function_in s.table address
+        ≡ function_in (symbols_of s.map.items) address };
+}
+
+// No function of a kernel has so many bytes.
+const FAR: u64 = 1 << 20;
+
+fn unless_far(address: u64, last: Option<Symbol>) -> Option<Symbol>
+    ensures { result ≡ unless_far address last }
+{
+    match last {
+        Some(symbol) if address.saturating_sub(symbol.address) < FAR => Some(symbol),
+        _ => None,
+    }
 }
 
 impl Symbols {
@@ -46,12 +60,12 @@ impl Symbols {
         }
     }
 
-    /// The function that an address is of: the last one at or below it; `None` if all are above it, or the map hides
-    /// its addresses.
+    /// The function that an address is of: the last one at or below it; `None` if all are above it or 1 MiB below, or
+    /// the map hides its addresses.
     pub fn function_at(&self, address: u64) -> Option<Symbol>
         ensures { result ≡ function_of self.now address }
     {
-        self.table.function_at(address)
+        unless_far(address, self.table.function_at(address))
     }
 
     /// The name of a function of the map.
@@ -59,5 +73,12 @@ impl Symbols {
         ensures { result.now ≡ name_of self.now symbol.name }
     {
         name_at(&self.map, symbol.name)
+    }
+
+    /// The module that a function of the map is of, in brackets; nothing for a function of the kernel itself.
+    pub fn module(&self, symbol: Symbol) -> &[u8]
+        ensures { result.now ≡ module_of self.now symbol.name }
+    {
+        module_at(&self.map, symbol.name)
     }
 }

@@ -12,11 +12,15 @@ returns-in_err-report-clause-reported g c =
     (g.O.Sink.given c.report_by.new.out) (g.O.Sink.faults c.args.out.now) (g.O.Sink.faults c.report_by.new.out)
     (seen (g.E.Sink.given c.args.messages.now.errors) (g.E.Sink.faults c.args.messages.now.errors)
     c.args.messages.now.is_lost)
-    (seen (g.E.Sink.given c.args.messages.now.errors) (g.E.Sink.faults c.args.messages.now.errors)
-    c.args.messages.now.is_lost) c.in_err-report.field-0.0 =
+    (seen (g.E.Sink.given c.sought_plan.new.messages.errors) (g.E.Sink.faults c.sought_plan.new.messages.errors)
+    c.sought_plan.new.messages.is_lost) c.in_err-report.field-0.0 =
     unreported c.args.asked.now c.args.known.now c.args.path.now _ _ c.in_ok-told.told c.in_ok-told.ensures.planned
-    c.in_ok-told.ensures.same _ _ _ _ _ (g.M.Load.faults c.sought_plan.new.image) _ _ _ c.in_ok-told.ensures.later
-    c.in_err-report.ensures.reported in
+    (seen (g.E.Sink.given c.args.messages.now.errors) (g.E.Sink.faults c.args.messages.now.errors)
+    c.args.messages.now.is_lost)
+    (seen (g.E.Sink.given c.sought_plan.new.messages.errors) (g.E.Sink.faults c.sought_plan.new.messages.errors)
+    c.sought_plan.new.messages.is_lost)
+    c.in_ok-told.ensures.looked c.in_ok-told.ensures.same _ _ _ _ _ (g.M.Load.faults c.sought_plan.new.image) _ _
+    c.in_ok-told.ensures.later c.in_err-report.ensures.reported in
     search rules
 
 pub returns-in_err-tell_layout-clause-reported : goal.returns-in_err-tell_layout-clause-reported
@@ -29,17 +33,30 @@ returns-in_err-tell_layout-clause-reported g c =
     (seen (g.E.Sink.given c.tell_layout.new.messages.errors) (g.E.Sink.faults c.tell_layout.new.messages.errors)
     c.tell_layout.new.messages.is_lost) c.in_err-tell_layout.field-0.0 =
     unended c.args.asked.now c.args.known.now c.args.path.now _ _ c.in_ok-told.told c.in_ok-told.ensures.planned
-    c.in_ok-told.ensures.same (g.O.Sink.given c.args.out.now) (g.O.Sink.given c.report_by.new.out)
-    (g.O.Sink.given c.tell_layout.new.out) c.in_ok-report.report c.in_ok-report.ensures.reported c.deref.result.now
-    c.deref.ensures (g.O.Sink.faults c.args.out.now) (g.O.Sink.faults c.report_by.new.out)
-    (g.O.Sink.faults c.tell_layout.new.out) c.in_ok-report.ensures.faultless _ _ _ _ c.in_err-tell_layout.field-0.0
-    c.in_err-tell_layout.ensures in
+    (seen (g.E.Sink.given c.args.messages.now.errors) (g.E.Sink.faults c.args.messages.now.errors)
+    c.args.messages.now.is_lost)
+    (seen (g.E.Sink.given c.sought_plan.new.messages.errors) (g.E.Sink.faults c.sought_plan.new.messages.errors)
+    c.sought_plan.new.messages.is_lost)
+    c.in_ok-told.ensures.looked c.in_ok-told.ensures.same (g.O.Sink.given c.args.out.now)
+    (g.O.Sink.given c.report_by.new.out) (g.O.Sink.given c.tell_layout.new.out) c.in_ok-report.report
+    c.in_ok-report.ensures.reported c.deref.result.now c.deref.ensures (g.O.Sink.faults c.args.out.now)
+    (g.O.Sink.faults c.report_by.new.out) (g.O.Sink.faults c.tell_layout.new.out) c.in_ok-report.ensures.faultless
+    (seen (g.E.Sink.given c.tell_layout.new.messages.errors) (g.E.Sink.faults c.tell_layout.new.messages.errors)
+    c.tell_layout.new.messages.is_lost)
+    _ _ c.in_err-tell_layout.field-0.0 c.in_err-tell_layout.ensures in
     search rules
 
 pub returns-clause-reported : goal.returns-clause-reported
 returns-clause-reported g c =
     ended c.args.asked.now c.args.known.now c.args.path.now _ _ c.in_ok-told.told c.in_ok-told.ensures.planned
-    c.in_ok-told.ensures.same (g.O.Sink.given c.args.out.now) (g.O.Sink.given c.report_by.new.out)
-    (g.O.Sink.given c.tell_layout.new.out) c.in_ok-report.report c.in_ok-report.ensures.reported c.deref.result.now
-    c.deref.ensures (g.O.Sink.faults c.args.out.now) (g.O.Sink.faults c.report_by.new.out)
-    (g.O.Sink.faults c.tell_layout.new.out) c.in_ok-report.ensures.faultless _ _ c.in_ok-tell_layout.ensures
+    (seen (g.E.Sink.given c.args.messages.now.errors) (g.E.Sink.faults c.args.messages.now.errors)
+    c.args.messages.now.is_lost)
+    (seen (g.E.Sink.given c.sought_plan.new.messages.errors) (g.E.Sink.faults c.sought_plan.new.messages.errors)
+    c.sought_plan.new.messages.is_lost)
+    c.in_ok-told.ensures.looked c.in_ok-told.ensures.same (g.O.Sink.given c.args.out.now)
+    (g.O.Sink.given c.report_by.new.out) (g.O.Sink.given c.tell_layout.new.out) c.in_ok-report.report
+    c.in_ok-report.ensures.reported c.deref.result.now c.deref.ensures (g.O.Sink.faults c.args.out.now)
+    (g.O.Sink.faults c.report_by.new.out) (g.O.Sink.faults c.tell_layout.new.out) c.in_ok-report.ensures.faultless
+    (seen (g.E.Sink.given c.tell_layout.new.messages.errors) (g.E.Sink.faults c.tell_layout.new.messages.errors)
+    c.tell_layout.new.messages.is_lost)
+    c.in_ok-tell_layout.ensures

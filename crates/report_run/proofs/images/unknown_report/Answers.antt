@@ -1,6 +1,6 @@
 -- The image could not be read, or it is a log, whose report follows.
 use Rattle.std.proofs.Common.{subst, Option}
-use Rattle.log_image.specs.declared.LogImage.{LogImage}
+use Rattle.report_run.specs.declared.boots.HeldLog.{HeldLog}
 use Rattle.report_run.specs.Messages.{seen}
 use Rattle.report_run.specs.Logs.{IsLooked}
 use Rattle.report_run.proofs.LogEnds.{unseen, by_log}
@@ -23,6 +23,6 @@ returns-in-Ok-Some-clause-reported g c =
     (seen (g.E.Sink.given c.args.messages.now.errors) (g.E.Sink.faults c.args.messages.now.errors)
     c.args.messages.now.is_lost)
     c.report_log.result
-    (subst (λ (o : Option LogImage). IsLooked c.args.asked.now.logs (g.M.Load.holds c.args.image.now) o)
+    (subst (λ (o : Option HeldLog). IsLooked c.args.asked.now.logs (g.M.Load.holds c.args.image.now) o)
     c.in-Ok-Some.field-0-is c.in-Ok-Some.ensures.looked)
     c.report_log.ensures.reported

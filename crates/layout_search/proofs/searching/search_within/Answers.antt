@@ -1,5 +1,5 @@
 -- The layout that was found first and the rival that the second sweep leaves are an answer. So is the best of a search
--- that gave up, after the usual layouts were tried. For `search`.
+-- that gave up, after the usual layouts were tried. For `search_within`.
 use Rattle.std.proofs.Common.{◌≡◌, ◌<◌, true, Option, refl, sym, subst, arith, true≢false}
 use Rattle.std.specs.Prelude.{Bool, not}
 use Rattle.layout_spec.specs.declared.Candidate.{Candidate}
@@ -7,7 +7,7 @@ use Rattle.layout_spec.specs.Taken.{is_taken}
 use Rattle.layout_search.specs.Answers.{IsAnswer, IsOnly}
 use Rattle.layout_search.specs.declared.searching.Found.{Found}
 use Rattle.layout_search.proofs.SearchAnswers.{partly, wholly, of_not, not_only}
-use Rattle.layout_search.proofs.searching.search.Goals as goal
+use Rattle.layout_search.proofs.searching.search_within.Goals as goal
 
 pub returns-then-state-eq0 : goal.returns-then-state-eq0
 returns-then-state-eq0 c =
