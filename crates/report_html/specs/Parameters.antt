@@ -1,9 +1,10 @@
 -- The parameters of a layout, or the sizes of a storage, in a table
 use Rattle.std.specs.Prelude.{ℕ, List, [], ◌∷◌, ◌++◌, codes}
 use Rattle.psz_spec.specs.declared.Sizes.{Sizes}
+use Rattle.zone_spec.specs.declared.params.ByteOrder.{ByteOrder}
 use Rattle.zone_spec.specs.declared.params.Order.{Order}
 use Rattle.zone_spec.specs.declared.params.Params.{Params}
-use Rattle.zone_spec.specs.Orders.{order_text}
+use Rattle.zone_spec.specs.Orders.{order_text, byte_order_text}
 use Rattle.report_spec.specs.declared.Division.{Division}
 use Rattle.report_spec.specs.declared.Division.TheVariants.{Region, Storage}
 use Rattle.report_html.specs.declared.words.TheConstants.{PARAMETERS}
@@ -22,6 +23,9 @@ text_parts key text =
 abbrev pub order_parts : Order → List Part
 order_parts order = text_parts (codes "order") (order_text order)
 
+abbrev pub byte_order_parts : ByteOrder → List Part
+byte_order_parts order = text_parts (codes "byte_order") (byte_order_text order)
+
 abbrev pub size_rows : Params → List Part
 size_rows p =
     parameter_parts (codes "mem_size") p.mem ++ parameter_parts (codes "record_size") p.dump
@@ -37,6 +41,7 @@ parity_rows p =
 abbrev pub ftrace_rows : Params → List Part
 ftrace_rows p =
     parameter_parts (codes "cpus") p.cpus ++ parameter_parts (codes "ftrace_sig") p.ftrace_sig ++ order_parts p.order
+    ++ byte_order_parts p.byte_order
 
 abbrev pub region_rows : Params → List Part
 region_rows p = size_rows p ++ parity_rows p ++ ftrace_rows p

@@ -2,6 +2,7 @@
 ghost use Rattle.std.specs.Prelude.{◌≡◌, ◌++◌, OnOk};
 ghost use Rattle.report_html.specs.Pieces.{parts};
 ghost use Rattle.report_html.specs.Parameters.{parameter_parts, size_rows, parity_rows, ftrace_rows, text_parts, order_parts};
+ghost use Rattle.report_html.specs.Parameters.{byte_order_parts};
 ghost use Rattle.report_html.specs.Parameters.{region_rows, storage_rows, division_rows, parameters_parts};
 
 use crate::pieces::{Piece, add};
@@ -9,7 +10,7 @@ use crate::words::PARAMETERS;
 use psz_spec::Sizes;
 use region_report::Division;
 use std::alloc::AllocError;
-use zone_spec::{Order, Params};
+use zone_spec::{ByteOrder, Order, Params};
 
 fn add_parameter(
     pieces: &mut Vec<Piece<'_>>,
@@ -78,12 +79,19 @@ fn add_order(pieces: &mut Vec<Piece<'_>>, order: Order) -> Result<(), AllocError
     add_text(pieces, "order", order.text())
 }
 
+fn add_byte_order(pieces: &mut Vec<Piece<'_>>, order: ByteOrder) -> Result<(), AllocError>
+    ensures { OnOk result (parts pieces.new.items ≡ parts pieces.old.items ++ byte_order_parts order) }
+{
+    add_text(pieces, "byte_order", order.text())
+}
+
 fn add_ftrace(pieces: &mut Vec<Piece<'_>>, params: &Params) -> Result<(), AllocError>
     ensures { OnOk result (parts pieces.new.items ≡ parts pieces.old.items ++ ftrace_rows params.now) }
 {
     add_parameter(pieces, "cpus", params.cpus)?;
     add_parameter(pieces, "ftrace_sig", u64::from(params.ftrace_sig))?;
     add_order(pieces, params.order)?;
+    add_byte_order(pieces, params.byte_order)?;
     Ok(())
 }
 

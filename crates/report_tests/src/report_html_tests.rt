@@ -676,6 +676,7 @@ fn parameters(rt: HostRuntime) -> Result<(), Fail> {
 <tr><th scope=\"row\">cpus</th><td class=\"n\">1</td></tr>
 <tr><th scope=\"row\">ftrace_sig</th><td class=\"n\">0</td></tr>
 <tr><th scope=\"row\">order</th><td>console,ftrace,pmsg</td></tr>
+<tr><th scope=\"row\">byte_order</th><td>little</td></tr>
 </table></div>
 </main>\n";
     assert!(rt; str::from_utf8(page.as_slice())?.contains(table));
