@@ -416,7 +416,8 @@ pub from_start : (known : Known) (image : List ℕ) (aim : Aim) (s : Progress) (
     → TagsSettled known image aim s (record c { order = order_of (order_number c.order); tag = t; byte_order = b })
     → TagsSettled known image aim s (record c { tag = t })
 from_start known image aim s c b t family start h =
-    let same : b ≡ c.byte_order = start ∙ sym (is_order c.byte_order (byte_order_for known image) (same_in known image c family)) in
+    let same : b ≡ c.byte_order =
+    start ∙ sym (is_order c.byte_order (byte_order_for known image) (same_in known image c family)) in
     subst (λ (b : ByteOrder). TagsSettled known image aim s (record c { tag = t; byte_order = b })) same
     (subst (λ (o : ZoneOrder). TagsSettled known image aim s (record c { order = o; tag = t; byte_order = b }))
     (order_back c.order) h)

@@ -15,8 +15,8 @@ pub struct Sight {
     pub look: Look,
 }
 
-/// What was seen of an image: the order of bytes of its first mark, and its zones with parity. A zone has one slot, which
-/// holds the last zone that was seen of those that share it.
+/// What was seen of an image: the order of bytes of its first mark, and its zones with parity. A zone has one slot,
+/// which holds the last zone that was seen of those that share it.
 #[derive(Drop)]
 pub struct Sights {
     pub byte_order: ByteOrder,

@@ -35,8 +35,8 @@ signature_bytes order image at =
     flag (word_byte order image at 0 == 68) + flag (word_byte order image at 1 == 66)
     + flag (word_byte order image at 2 == 71) + flag (word_byte order image at 3 == 67)
 
--- a place where a header of this order of bytes seems to stand: two bytes of the signature at least, and a zero. So text
--- is no mark, and a damaged signature is one
+-- a place where a header of this order of bytes seems to stand: two bytes of the signature at least, and a zero. So
+-- text is no mark, and a damaged signature is one
 unfoldable pub is_mark_in : ByteOrder → List ℕ → ℕ → Bool
 is_mark_in order image at = nat_le 2 (signature_bytes order image at) && has_zero order image at
 

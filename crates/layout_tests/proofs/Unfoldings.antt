@@ -11,5 +11,6 @@ use Rattle.layout_spec.specs.Order.{tally_of, key_by, is_before}
 
 unfoldable pub computing : ℕ
 unfolding power_within rounded zones_from part_reading part_word part_bytes nearest is_codeword distance read_line
-    layout_of is_mark_in is_mark is_tagged_mark_in is_tagged_mark marks first_order byte_order_in header_of zone_words fits log_front is_odd tally_of key_by is_before
+    layout_of is_mark_in is_mark is_tagged_mark_in is_tagged_mark marks first_order byte_order_in
+    header_of zone_words fits log_front is_odd tally_of key_by is_before
 computing = 0

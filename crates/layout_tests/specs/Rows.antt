@@ -1,5 +1,5 @@
--- Worked rows: a region of 512 bytes with two empty zones without parity, and layouts that lose against theirs; the same
--- of a big-endian machine; the two orders of ftrace and pmsg
+-- Worked rows: a region of 512 bytes with two empty zones without parity, and layouts that lose against theirs; the
+-- same of a big-endian machine; the two orders of ftrace and pmsg
 use Rattle.std.specs.Prelude.{◌≡◌, ℕ, true, false, List, [], ◌∷◌, ◌++◌, codes, map, replicate}
 use Rattle.zone_spec.specs.declared.params.ByteOrder.{ByteOrder}
 use Rattle.zone_spec.specs.declared.params.ByteOrder.TheVariants.{Little, Big}

@@ -1,5 +1,5 @@
-//! Tests of layout_search: small images by hand, with the parity of a fresh header as a kernel wrote it, and worked rows of
-//! layout_spec.
+//! Tests of layout_search: small images by hand, with the parity of a fresh header as a kernel wrote it, and worked rows
+//! of layout_spec.
 #![tactic(auto)]
 
 #[cfg(test)]

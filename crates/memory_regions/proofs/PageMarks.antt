@@ -83,7 +83,8 @@ word_same : (order : ByteOrder) (xs ys : List ℕ) (at to : ℕ)
     → ((i : ℕ) → i < 12 → slice_index xs (at + i) ≡ slice_index ys (to + i))
     → (a b k i : ℕ) → a ≡ at + k → b ≡ to + k → k ≤ 8 → i ≤ 3 → word_byte order xs a i ≡ word_byte order ys b i
 word_same Little xs ys at to same a b k i e f early small =
-    ap (slice_index xs) (let p : a + i ≡ at + (k + i) = omega (arith, e) in p) ∙ same (k + i) (omega (arith, early, small))
+    ap (slice_index xs) (let p : a + i ≡ at + (k + i) = omega (arith, e) in p)
+    ∙ same (k + i) (omega (arith, early, small))
     ∙ ap (slice_index ys) (let p : to + (k + i) ≡ b + i = omega (arith, f) in p)
 word_same Big xs ys at to same a b k i e f early small =
     ap (slice_index xs) (let p : a + (3 - i) ≡ at + (k + (3 - i)) = omega (arith, e) in p)

@@ -4,10 +4,16 @@ use memory_regions::{Part, Unread, Watch, best, larger, marked_pages, readings, 
 use outside::{Bytes, Calls, Load, MemStore};
 use std::alloc::{AllocError, Global};
 use std::test::Fail;
+use zone_spec::ByteOrder;
 
 // The 16 parity bytes of a header with nothing in its ring, as Linux wrote them.
 const FRESH_PARITY: [u8; 16] = [
     170, 37, 213, 33, 50, 226, 53, 58, 56, 85, 25, 192, 43, 203, 173, 95,
+];
+
+// The same of a big-endian machine.
+const BIG_FRESH_PARITY: [u8; 16] = [
+    152, 185, 121, 61, 14, 182, 245, 176, 62, 230, 59, 183, 151, 70, 126, 97,
 ];
 
 const PAGE: usize = 4096;
@@ -26,17 +32,26 @@ fn add_zeros(memory: &mut Vec<u8>, count: usize) -> Result<(), AllocError> {
     Ok(())
 }
 
-// A page of zeros, so many zones of a page each, and a page of zeros.
-fn memory(alloc: Global, zones: usize) -> Result<Vec<u8>, AllocError> {
+// A page of zeros, so many zones of a page each, with this signature and this parity, and a page of zeros.
+fn memory_of(
+    alloc: Global,
+    zones: usize,
+    signature: &[u8; 4],
+    parity: &[u8; 16],
+) -> Result<Vec<u8>, AllocError> {
     let mut memory = Vec::new(alloc);
     add_zeros(&mut memory, PAGE)?;
     for _ in 0..zones {
-        memory.extend_from_slice(b"DBGC")?;
+        memory.extend_from_slice(signature)?;
         add_zeros(&mut memory, PAGE - 20)?;
-        memory.extend_from_slice(&FRESH_PARITY)?;
+        memory.extend_from_slice(parity)?;
     }
     add_zeros(&mut memory, PAGE)?;
     Ok(memory)
+}
+
+fn memory(alloc: Global, zones: usize) -> Result<Vec<u8>, AllocError> {
+    memory_of(alloc, zones, b"DBGC", &FRESH_PARITY)
 }
 
 fn store(alloc: Global, bytes: Vec<u8>, fails: &[u32]) -> Result<MemStore, AllocError> {
@@ -91,6 +106,33 @@ fn a_region_of_two_zones(rt: HostRuntime) -> Result<(), Fail> {
     let first = best(&readings).ok_or("none")?;
     assert_eq!(rt; (readings.len(), first.size), (2, 8192));
     assert!(rt; larger(&readings, &first).is_none());
+    Ok(())
+}
+
+// The pages of a big-endian machine's zones are marked, and they are read in its order of bytes.
+#[test]
+fn a_big_endian_region(rt: HostRuntime) -> Result<(), Fail> {
+    let bytes = memory_of(rt.alloc(), 2, b"CGBD", &BIG_FRESH_PARITY)?;
+    let mut store = store(rt.alloc(), bytes, &[])?;
+    match marked_pages(rt.alloc(), &mut store, &mut Nobody) {
+        Ok(pages) => assert_eq!(rt; pages.as_slice(), [1, 2].as_slice()),
+        Err(_) => return Err("unread".into()),
+    }
+    let Ok(bytes) = window(rt.alloc(), &mut store, PAGE as u64, 1 << 24) else {
+        return Err("unread".into());
+    };
+    let known = Known {
+        dump: Some(0),
+        ftrace: Some(0),
+        parity: Some(16),
+        ..Known::default()
+    };
+    let readings = readings(rt.alloc(), &known, &bytes)?;
+    let first = best(&readings).ok_or("none")?;
+    assert_eq!(rt; (readings.len(), first.size), (2, 8192));
+    let found = first.found.ok_or("none")?;
+    assert!(rt; found.candidate.byte_order == ByteOrder::Big);
+    assert_eq!(rt; (found.tally.faults, found.tally.fits), (0, 2));
     Ok(())
 }
 

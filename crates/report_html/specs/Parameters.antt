@@ -41,6 +41,7 @@ parity_rows p =
 abbrev pub ftrace_rows : Params → List Part
 ftrace_rows p =
     parameter_parts (codes "cpus") p.cpus ++ parameter_parts (codes "ftrace_sig") p.ftrace_sig ++ order_parts p.order
+    ++ byte_order_parts p.byte_order
 
 abbrev pub region_rows : Params → List Part
 region_rows p = size_rows p ++ parity_rows p ++ ftrace_rows p ++ byte_order_parts p.byte_order

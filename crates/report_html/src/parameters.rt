@@ -91,6 +91,7 @@ fn add_ftrace(pieces: &mut Vec<Piece<'_>>, params: &Params) -> Result<(), AllocE
     add_parameter(pieces, "cpus", params.cpus)?;
     add_parameter(pieces, "ftrace_sig", u64::from(params.ftrace_sig))?;
     add_order(pieces, params.order)?;
+    add_byte_order(pieces, params.byte_order)?;
     Ok(())
 }
 

@@ -3,11 +3,49 @@ ghost use Rattle.std.specs.Prelude.{None};
 
 use crate::packed_dumps::{DAMAGED, WHOLE, image_of};
 use grammar_spec::ParamFault;
+use layout_search::Candidate;
 use outside::{Bytes, Calls, Failed, MemSink, MemStore};
 use report_tool::*;
 use std::alloc::Global;
 use std::test::Fail;
-use zone_spec::LayoutFault;
+use zone_spec::{ByteOrder, LayoutFault, Order};
+
+#[test]
+fn words_of_the_order_of_bytes(rt: HostRuntime) -> Result<(), Fail> {
+    for (word, order) in [
+        ("byte_order=big", Some(ByteOrder::Big)),
+        ("byte_order=little", Some(ByteOrder::Little)),
+        ("order=console,pmsg,ftrace", None),
+    ] {
+        let mut words = Vec::new(rt.alloc());
+        words.push(String::from_str(rt.alloc(), word)?)?;
+        assert!(rt; known(&words).byte_order == order, "by {word}");
+    }
+    Ok(())
+}
+
+// The layout of a region that a Malta board wrote: 64 KiB, all defaults, and 16 bytes of parity.
+#[test]
+fn words_of_a_big_endian_region(rt: HostRuntime) -> Result<(), Fail> {
+    let candidate = Candidate {
+        mem: 65536,
+        dump: 4096,
+        console: 4096,
+        ftrace: 4096,
+        pmsg: 4096,
+        parity: 16,
+        cpus: 1,
+        tag: 0x601c0,
+        order: Order::FtracePmsg,
+        byte_order: ByteOrder::Big,
+    };
+    let words = layout_words(rt.alloc(), &candidate, 65536)?;
+    assert_eq!(rt;
+        words.as_str(),
+        "record_size=4096 console_size=4096 ftrace_size=4096 pmsg_size=4096 ecc=16 cpus=1 ftrace_sig=0x601c0 byte_order=big"
+    );
+    Ok(())
+}
 
 // The words of a layout of a console alone.
 fn console(alloc: Global, mem: &str) -> Result<Vec<String>, Fail> {

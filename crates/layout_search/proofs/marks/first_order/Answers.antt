@@ -69,5 +69,6 @@ loop-i-preserved c =
 pub returns : goal.returns
 returns c =
     let image = c.args.image.now in
-    let out : (length image - 10) / 2 ≤ c.loop-i.i = omega (arith, c.loop-i-test.false, c.saturating_sub-i-end.ensures) in
+    let out : (length image - 10) / 2 ≤ c.loop-i.i =
+    omega (arith, c.loop-i-test.false, c.saturating_sub-i-end.ensures) in
     sym (c.loop-i.invariant ∙ none_left image c.loop-i.i ((length image - 10) / 2) out)
