@@ -15,7 +15,7 @@ use Rattle.storage_report.specs.Reports.{IsStorageReport}
 -- a text is the report of a storage in a format
 abbrev pub ShowsStorage : Format → List ℕ → HeldStorage → ℕ → ReportHeld → List ℕ → Type 0
 ShowsStorage format path h lines report text =
-    ShowsZones format path (OfSizes h.storage.sizes) (zones_in h.storage.sizes) lines [] report text
+    ShowsZones format path (OfSizes h.storage.sizes) (zones_in h.storage.machine h.storage.sizes) lines [] report text
 
 -- the report was written to the sink
 pub record IsReported (format : Format) (path : List ℕ) (h : HeldStorage) (names : List ℕ) (lines : ℕ)

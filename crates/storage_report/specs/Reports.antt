@@ -12,11 +12,11 @@ use Rattle.storage_report.specs.declared.reading.StorageRead.{StorageRead}
 -- next boot lists, as they are shown
 pub record IsStorageReport (s : Storage) (names image : List ℕ) (r : ReportHeld) : Type 0 where
   pub of_storage : r.origin ≡ OfStorage
-  pub zones : r.logs.zones ≡ zones_in s.sizes
+  pub zones : r.logs.zones ≡ zones_in s.machine s.sizes
   pub readings : r.logs.readings ≡ readings_in s.machine s.sizes image
-  pub parts : r.parts ≡ replicate (length (zones_in s.sizes)) no_parts
-  pub records : AreShown (zones_in s.sizes) names (held_in s.machine s.sizes image) r.records
+  pub parts : r.parts ≡ replicate (length (zones_in s.machine s.sizes)) no_parts
+  pub records : AreShown (zones_in s.machine s.sizes) names (held_in s.machine s.sizes image) r.records
 
 pub record IsRead (s : Storage) (names image : List ℕ) (r : StorageRead) : Type 0 where
-  pub zones : r.zones.items ≡ zones_in s.sizes
+  pub zones : r.zones.items ≡ zones_in s.machine s.sizes
   pub report : IsStorageReport s names image r.report

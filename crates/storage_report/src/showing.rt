@@ -23,7 +23,7 @@ fn shown(
     path: &str,
 ) -> Result<Vec<u8>, AllocError>
     requires of { AreOf read.now.zones.items read.now.report }
-    requires same { read.now.zones.items ≡ zones_in held.now.storage.sizes }
+    requires same { read.now.zones.items ≡ zones_in held.now.storage.machine held.now.storage.sizes }
     ensures { IfOk result (λ text. ShowsStorage format path.now held.now lines read.now.report text.items) }
 {
     let division = Division::Storage(held.storage.sizes);

@@ -1,6 +1,6 @@
 //! Prints what the report of each storage beside it has: the lines on it, why the machine died, and of each record that
 //! is saved its name, its length and its MD5. Then the same of a storage whose headers are damaged in one way after
-//! another.
+//! another, and of one of a big-endian machine.
 #![tactic(auto)]
 
 ghost use Rattle.std.specs.Prelude.{None};
@@ -17,6 +17,31 @@ use symbols::Symbols;
 
 /// The most bytes of a report's text.
 const MOST: u32 = 1_048_576;
+
+/// Bytes of a storage of a big-endian machine, and their places: a pmsg that went round, a console, a dump of 32 bits of
+/// nanoseconds that is compressed to one stored block, and a newer one of 64.
+const BIG: [(usize, &[u8]); 6] = [
+    (0, b"CGBC\0\0\0\x04\0\0\0\x02yesa"),
+    (512, b"CGBF\0\0\0\x07\0\0\0\x07booted\n"),
+    (
+        1024,
+        b"CGBD\0\0\0\x84\0\0\0\0\x4d\xfc\x3a\xe5\0\0\0\0\0\0\0\0\x6b\x0b\xf7\xaf\
+          \x12\x48\xcf\x2d\0\0\0\0\x01\0\0\0\0\0\0\x01\0\0\0\x02",
+    ),
+    (
+        1076,
+        b"\x01\x57\x00\xa8\xffOops#1 Part1\n<1>[    5.000000] BUG: kernel NULL pointer dereference, address: 00000008\n",
+    ),
+    (
+        2048,
+        b"CGBD\0\0\0\x74\0\0\0\0\x4d\xfc\x3a\xe5\0\0\0\0\0\0\0\0\x6b\x0b\xf7\xb0\
+          \0\0\0\0\x12\x48\xcf\x2d\0\0\0\0\0\0\0\x02\0\0\0\x01",
+    ),
+    (
+        2100,
+        b"Panic#2 Part1\n<0>[    9.000000] Kernel panic - not syncing: Fatal exception\n",
+    ),
+];
 
 /// A folder that keeps a line of each file.
 #[derive(Drop)]
@@ -118,6 +143,23 @@ fn damaged(
     Ok(copy)
 }
 
+// The storage of a big-endian machine.
+fn big_storage(alloc: Global) -> Result<Vec<u8>, AllocError> {
+    let mut bytes = vec![in alloc; 0; 8192]?;
+    for (at, with) in BIG {
+        bytes = damaged(alloc, &bytes, 8192, at, with)?;
+    }
+    Ok(bytes)
+}
+
+fn show_big<R: Print + AllocGlobal>(rt: &R) -> io::Result<()> {
+    let alloc = rt.alloc();
+    show_damaged(rt, "a big-endian machine", big_storage(alloc)?)?;
+    let bytes = big_storage(alloc)?;
+    let other = damaged(alloc, &bytes, 8192, 2048, b"DBGC")?;
+    show_damaged(rt, "a dump of the other order", other)
+}
+
 fn show_damaged<R: Print + AllocGlobal>(rt: &R, name: &str, bytes: Vec<u8>) -> io::Result<()> {
     let bytes = Bytes::from_vec(bytes);
     if bytes.len() > MOST as usize {
@@ -155,5 +197,5 @@ fn main(rt: HostRuntime) -> io::Result<()> {
     ] {
         show_damaged(&rt, name, damaged(alloc, &bytes, len, at, with)?)?;
     }
-    Ok(())
+    show_big(&rt)
 }
