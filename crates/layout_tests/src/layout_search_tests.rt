@@ -1,5 +1,5 @@
 // Layouts found from the bytes of small images.
-use layout_search::{Known, search};
+use layout_search::{Known, search, search_within};
 use std::alloc::{AllocError, Global};
 use std::test::Fail;
 use zone_spec::{ByteOrder, Order};
@@ -259,5 +259,17 @@ fn what_no_one_can_read_is_refused(rt: HostRuntime) -> Result<(), Fail> {
 fn a_short_file_has_none(rt: HostRuntime) -> Result<(), Fail> {
     let short = zones(rt.alloc(), 1, 128, &[])?;
     assert!(rt; search(rt.alloc(), &short, &Known::default())?.is_none());
+    Ok(())
+}
+
+// Headers in a row, more than any layout of 1032 bytes has zones: a search with little work gives up, and one with all
+// of it does not.
+#[test]
+fn a_little_work(rt: HostRuntime) -> Result<(), Fail> {
+    let image = filled(rt.alloc(), 86, b"DBGC\0\0\0\0\0\0\0\0")?;
+    let known = Known::default();
+    let few = search_within(rt.alloc(), &image, &known, 1)?.ok_or("none")?;
+    let all = search(rt.alloc(), &image, &known)?.ok_or("none")?;
+    assert!(rt; !few.whole && all.whole);
     Ok(())
 }

@@ -96,19 +96,31 @@ struct Done {
     has_failed: bool,
 }
 
-fn sink(alloc: Global) -> Result<MemSink, Fail> {
-    Ok(MemSink::new(alloc, 65_536, Calls::new(alloc, &[])?)?)
+// An output with room for so many bytes.
+fn sink(alloc: Global, room: u32) -> Result<MemSink, Fail> {
+    Ok(MemSink::new(alloc, room, Calls::new(alloc, &[])?)?)
 }
 
 fn run_at(alloc: Global, asked: &Asked, path: &str, bytes: Vec<u8>) -> Result<Done, Fail> {
+    run_within(alloc, asked, path, bytes, 65_536)
+}
+
+// Standard output has room for so many bytes.
+fn run_within(
+    alloc: Global,
+    asked: &Asked,
+    path: &str,
+    bytes: Vec<u8>,
+    room: u32,
+) -> Result<Done, Fail> {
     let mut paths = Vec::new(alloc);
     paths.push(String::from_str(alloc, path)?)?;
     let mut held = Held {
         alloc,
         bytes: Bytes::from_vec(bytes),
     };
-    let mut out = sink(alloc)?;
-    let mut messages = Messages::new(sink(alloc)?);
+    let mut out = sink(alloc, room)?;
+    let mut messages = Messages::new(sink(alloc, 65_536)?);
     let mut taken = Taken { count: 0 };
     let has_failed = run(
         alloc,
@@ -276,9 +288,11 @@ fn boots_before_the_last(rt: HostRuntime) -> Result<(), Fail> {
     let done = run_on_boots(rt.alloc(), Format::Text)?;
     let text = str::from_utf8(&done.out)?;
     assert!(rt; text.starts_with("died: Kernel panic - not syncing: three\n"));
-    assert!(rt; text.ends_with(
-        "file@0x52  -  no death: an orderly restart\nfile@0x0  -  kernel panic: one\n"
-    ));
+    assert!(rt;
+        text.ends_with(
+            "file@0x52  -  no death: an orderly restart\nfile@0x0  -  kernel panic: one\n"
+        )
+    );
     assert!(rt; done.errors.is_empty() && !done.has_failed);
     Ok(())
 }
@@ -297,5 +311,24 @@ fn boots_in_other_formats(rt: HostRuntime) -> Result<(), Fail> {
     assert!(rt; done.out.as_slice() == b"file  -  kernel panic: three\n".as_slice());
     let done = run_on_boots(rt.alloc(), Format::Html)?;
     assert!(rt; !str::from_utf8(&done.out)?.contains("file@"));
+    Ok(())
+}
+
+// Standard output that is full before the last byte of a line fails the file. The lines have 43 and 31 bytes.
+#[test]
+fn boots_that_do_not_fit(rt: HostRuntime) -> Result<(), Fail> {
+    let whole = run_on_boots(rt.alloc(), Format::Text)?;
+    let asked = asked(known(&[]), Format::Text, Logs::Texts, None, false);
+    for missing in [1, 31, 32, 74] {
+        let text = Vec::from_slice(rt.alloc(), THREE_BOOTS.as_bytes())?;
+        let room = u32::try_from(whole.out.len().saturating_sub(missing))?;
+        let done = run_within(rt.alloc(), &asked, "file", text, room)?;
+        assert!(rt;
+            done.has_failed
+                && done.errors.as_slice()
+                    == b"oopsreport: file: standard output could not be written\n".as_slice()
+        );
+        assert!(rt; whole.out.starts_with(&done.out));
+    }
     Ok(())
 }
