@@ -2,3 +2,4 @@
 -- cite them.
 pub mod Entries
 pub mod Falls
+pub mod Unfoldings

@@ -5,7 +5,7 @@ ghost use Rattle.zone_spec.specs.Ftrace.{merge};
 ghost use Rattle.ftrace_zone.specs.EntryBytes.{entry_bytes};
 ghost use Rattle.ftrace_spec.specs.Forms.{entry_len as len_of, number_of, as_long, entry_at, long_entries, falls_after};
 ghost use Rattle.ftrace_spec.specs.Forms.{oddities as oddities_of, all_oddities as all_of, form_shown as shown_of};
-ghost use Rattle.ftrace_spec.specs.Forms.{form_of as form_by, trace_by as trace_in, trace_of, order_of as order_in};
+ghost use Rattle.ftrace_spec.specs.Forms.{trace_by as trace_in, trace_of, order_of as order_in};
 
 use ftrace_spec::EntryForm;
 use ftrace_zone::types::Entries;
@@ -103,12 +103,7 @@ fn falls(all: &[Entry]) -> u64
 }
 
 /// What speaks against a form of a log's entries.
-fn oddities(
-    alloc: Global,
-    order: ByteOrder,
-    form: EntryForm,
-    log: &[u8],
-) -> Result<u64, AllocError>
+fn oddities(alloc: Global, order: ByteOrder, form: EntryForm, log: &[u8]) -> Result<u64, AllocError>
     ensures { IfOk result (λ n. n ≡ oddities_of order form log.now) }
 {
     let all = entries(alloc, order, form, log)?;
@@ -148,20 +143,6 @@ fn form_shown(alloc: Global, order: ByteOrder, logs: &[&[u8]]) -> Result<EntryFo
     }
 }
 
-fn form_of(
-    alloc: Global,
-    order: ByteOrder,
-    given: Option<EntryForm>,
-    logs: &[&[u8]],
-) -> Result<EntryForm, AllocError>
-    ensures { IfOk result (λ form. form ≡ form_by order given (map (λ (log : Bor (List ℕ)). log.now) logs.now)) }
-{
-    match given {
-        Some(form) => Ok(form),
-        None => form_shown(alloc, order, logs),
-    }
-}
-
 fn merged(
     alloc: Global,
     order: ByteOrder,
@@ -193,18 +174,13 @@ fn trace_by(
 }
 
 /// The entries of the logs of a machine's ftrace zones, merged by their times (`fs/pstore/ftrace.c`,
-/// `pstore_ftrace_combine_log`), each as a little-endian machine of 64 bits writes it. Without a form the logs' bytes
-/// show it. Takes time linear in the logs.
+/// `pstore_ftrace_combine_log`), each as a little-endian machine of 64 bits writes it. The logs' bytes show which form
+/// they have. Takes time linear in the logs.
 #[tactic(auto, unfolding(ftrace_spec::specs::Forms::trace_of))]
-pub fn trace(
-    alloc: Global,
-    order: ByteOrder,
-    given: Option<EntryForm>,
-    logs: &[&[u8]],
-) -> Result<Bytes, AllocError>
-    ensures { IfOk result (λ bytes. bytes ≡ trace_of order given (map (λ (log : Bor (List ℕ)). log.now) logs.now)) }
+pub fn trace(alloc: Global, order: ByteOrder, logs: &[&[u8]]) -> Result<Bytes, AllocError>
+    ensures { IfOk result (λ bytes. bytes ≡ trace_of order (map (λ (log : Bor (List ℕ)). log.now) logs.now)) }
 {
-    let form = form_of(alloc, order, given, logs)?;
+    let form = form_shown(alloc, order, logs)?;
     trace_by(alloc, order, form, logs)
 }
 

@@ -5,7 +5,8 @@
 mod forms;
 mod hexadecimal;
 mod lines;
+mod rows;
 
 pub use forms::{order_of, trace};
-pub use ftrace_spec::EntryForm;
 pub use lines::trace_text;
+pub use rows::{forms_shown, kernels_lines, one_entry, two_short_logs};
