@@ -1,7 +1,7 @@
 -- The entries of an ftrace log as each machine writes them (include/linux/pstore.h, struct pstore_ftrace_record), and
 -- which entries a log's bytes show
 use Rattle.std.specs.Prelude.{ℕ, ◌+◌, ◌*◌, ◌/◌, ◌%◌, ◌==◌, nat_lt, if◌then◌else◌, List, [], ◌∷◌, ◌++◌}
-use Rattle.std.specs.Prelude.{length, take, drop, map, fold, flat_map, sum_by, slice_range}
+use Rattle.std.specs.Prelude.{length, take, drop, map, fold, flat_map, sum_by, slice_range, Option, Some, None}
 use Rattle.std.specs.Int.{from_le_bytes, from_be_bytes, to_le_bytes}
 use Rattle.std.specs.List.{range_with_len}
 use Rattle.std.proofs.Common.{w64}
@@ -73,9 +73,14 @@ all_oddities order form logs = sum_by (oddities order form) logs
 abbrev pub form_shown : ByteOrder → List (List ℕ) → EntryForm
 form_shown order logs = if nat_lt (all_oddities order Short logs) (all_oddities order Long logs) then Short else Long
 
--- the entries of the logs of a machine's ftrace zones, in the form that the logs show
-unfoldable pub trace_of : ByteOrder → List (List ℕ) → List ℕ
-trace_of order logs = trace_by order (form_shown order logs) logs
+-- the form that is given, or else the one that the logs show
+abbrev pub form_of : ByteOrder → Option EntryForm → List (List ℕ) → EntryForm
+form_of order None logs = form_shown order logs
+form_of order (Some form) logs = form
+
+-- the entries of the logs of a machine's ftrace zones
+unfoldable pub trace_of : ByteOrder → Option EntryForm → List (List ℕ) → List ℕ
+trace_of order given logs = trace_by order (form_of order given logs) logs
 
 -- the order of bytes of a layout: all zones have one
 abbrev pub order_of : List Zone → ByteOrder

@@ -1,5 +1,5 @@
 -- Ftrace logs of several machines: worked rows, with bytes and texts of real kernels, typed by hand
-use Rattle.std.specs.Prelude.{◌≡◌, ℕ, List, [], ◌∷◌, ◌++◌, replicate, flat_map, codes}
+use Rattle.std.specs.Prelude.{◌≡◌, ℕ, List, [], ◌∷◌, ◌++◌, replicate, drop, flat_map, codes, Some, None}
 use Rattle.zone_spec.specs.declared.params.ByteOrder.TheVariants.{Little, Big}
 use Rattle.ftrace_spec.specs.declared.EntryForm.TheVariants.{Long, Short}
 use Rattle.ftrace_spec.specs.Forms.{long_entries, form_shown, trace_by, trace_of}
@@ -25,13 +25,13 @@ notice = 10 ∷ codes "ECC: No errors detected" ++ 10 ∷ []
 -- the lines of each, by the form that it shows
 abbrev pub OneEntry : Type 0
 OneEntry =
-    (trace_text [] (trace_of Little (arm_log ∷ []))
+    (trace_text [] (trace_of Little None (arm_log ∷ []))
     ≡ codes "CPU:0 ts:0 c020fa34  c020fd28  0xc020fa34 <- 0xc020fd28" ++ 10 ∷ [])
-    × (trace_text [] (trace_of Big (mips_log ∷ []))
+    × (trace_text [] (trace_of Big None (mips_log ∷ []))
     ≡ codes "CPU:0 ts:0 80219d28  8021a0a0  0x80219d28 <- 0x8021a0a0" ++ 10 ∷ [])
-    × (trace_text [] (trace_of Little (arm64_log ∷ []))
+    × (trace_text [] (trace_of Little None (arm64_log ∷ []))
     ≡ codes "CPU:0 ts:0 ffff800080130874  ffff800080130b60  0xffff800080130874 <- 0xffff800080130b60" ++ 10 ∷ [])
-    × (trace_of Little (arm64_log ∷ []) ≡ arm64_log)
+    × (trace_of Little None (arm64_log ∷ []) ≡ arm64_log)
 
 -- with parity the kernel takes the notice for a part of the log, so each of its entries begins too late: these are the
 -- lines that Linux showed on MIPS and on arm64
@@ -68,9 +68,14 @@ FormsShown =
     -- one log of three entries decides for a log that has none
     × (form_shown Little ((short_entry 0 3 ++ short_entry 0 5 ++ short_entry 0 6) ∷ [] ∷ []) ≡ Short)
 
+-- a form that is given counts, whatever the bytes show
+abbrev pub FormGiven : Type 0
+FormGiven = trace_of Little (Some Short) (arm64_log ∷ [])
+    ≡ flat_map (λ e. e) (long_entries Little Short (drop 8 arm64_log))
+
 -- the logs of two processors, merged by their times: of equal times the later zone's entry comes first
 abbrev pub TwoShortLogs : Type 0
 TwoShortLogs =
-    trace_of Little ((short_entry 0 3 ++ short_entry 0 9) ∷ (short_entry 1 3 ++ short_entry 1 4) ∷ [])
+    trace_of Little None ((short_entry 0 3 ++ short_entry 0 9) ∷ (short_entry 1 3 ++ short_entry 1 4) ∷ [])
     ≡ flat_map (λ e. e) (long_entries Little Short
     (short_entry 1 3 ++ short_entry 0 3 ++ short_entry 1 4 ++ short_entry 0 9))

@@ -5,7 +5,7 @@ ghost use Rattle.zone_spec.specs.Ftrace.{merge};
 ghost use Rattle.ftrace_zone.specs.EntryBytes.{entry_bytes};
 ghost use Rattle.ftrace_spec.specs.Forms.{entry_len as len_of, number_of, as_long, entry_at, long_entries, falls_after};
 ghost use Rattle.ftrace_spec.specs.Forms.{oddities as oddities_of, all_oddities as all_of, form_shown as shown_of};
-ghost use Rattle.ftrace_spec.specs.Forms.{trace_by as trace_in, trace_of, order_of as order_in};
+ghost use Rattle.ftrace_spec.specs.Forms.{form_of as form_by, trace_by as trace_in, trace_of, order_of as order_in};
 
 use ftrace_spec::EntryForm;
 use ftrace_zone::types::Entries;
@@ -173,14 +173,33 @@ fn trace_by(
     to_bytes(alloc, &all)
 }
 
-/// The entries of the logs of a machine's ftrace zones, merged by their times (`fs/pstore/ftrace.c`,
-/// `pstore_ftrace_combine_log`), each as a little-endian machine of 64 bits writes it. The logs' bytes show which form
-/// they have. Takes time linear in the logs.
-#[tactic(auto, unfolding(ftrace_spec::specs::Forms::trace_of))]
-pub fn trace(alloc: Global, order: ByteOrder, logs: &[&[u8]]) -> Result<Bytes, AllocError>
-    ensures { IfOk result (λ bytes. bytes ≡ trace_of order (map (λ (log : Bor (List ℕ)). log.now) logs.now)) }
+fn form_of(
+    alloc: Global,
+    order: ByteOrder,
+    given: Option<EntryForm>,
+    logs: &[&[u8]],
+) -> Result<EntryForm, AllocError>
+    ensures { IfOk result (λ form. form ≡ form_by order given (map (λ (log : Bor (List ℕ)). log.now) logs.now)) }
 {
-    let form = form_shown(alloc, order, logs)?;
+    match given {
+        Some(form) => Ok(form),
+        None => form_shown(alloc, order, logs),
+    }
+}
+
+/// The entries of the logs of a machine's ftrace zones, merged by their times (`fs/pstore/ftrace.c`,
+/// `pstore_ftrace_combine_log`), each as a little-endian machine of 64 bits writes it. Without a form the
+/// logs' bytes show it. Takes time linear in the logs.
+#[tactic(auto, unfolding(ftrace_spec::specs::Forms::trace_of))]
+pub fn trace(
+    alloc: Global,
+    order: ByteOrder,
+    given: Option<EntryForm>,
+    logs: &[&[u8]],
+) -> Result<Bytes, AllocError>
+    ensures { IfOk result (λ bytes. bytes ≡ trace_of order given (map (λ (log : Bor (List ℕ)). log.now) logs.now)) }
+{
+    let form = form_of(alloc, order, given, logs)?;
     trace_by(alloc, order, form, logs)
 }
 

@@ -8,5 +8,6 @@ mod lines;
 mod rows;
 
 pub use forms::{order_of, trace};
+pub use ftrace_spec::EntryForm;
 pub use lines::trace_text;
-pub use rows::{forms_shown, kernels_lines, one_entry, two_short_logs};
+pub use rows::{form_given, forms_shown, kernels_lines, one_entry, two_short_logs};

@@ -1,5 +1,5 @@
 // Logs of real kernels, each a theorem.
-ghost use Rattle.ftrace_text.specs.Rows.{OneEntry, KernelsLines, FormsShown, TwoShortLogs};
+ghost use Rattle.ftrace_text.specs.Rows.{OneEntry, KernelsLines, FormsShown, FormGiven, TwoShortLogs};
 
 /// An entry of a 32-bit ARM, of a big-endian MIPS and of an arm64.
 pub fn one_entry()
@@ -19,4 +19,9 @@ pub fn forms_shown()
 /// Two processors with entries of 16 bytes.
 pub fn two_short_logs()
     ensures { TwoShortLogs }
+{}
+
+/// A form that is given.
+pub fn form_given()
+    ensures { FormGiven }
 {}

@@ -6,7 +6,7 @@ ghost use Rattle.prz_read.specs.Saving.{saved};
 ghost use Rattle.ftrace_spec.specs.Forms.{trace_of, order_of as order_in};
 ghost use Rattle.report_spec.specs.Packed.{traced_by, records_traced as traced_of};
 
-use ftrace_text::{order_of, trace};
+use ftrace_text::{EntryForm, order_of, trace};
 use outside::Bytes;
 use prz_read::Logs;
 use pstore_records::{HeldRecord, ftrace_logs, held_records};
@@ -14,12 +14,17 @@ use std::alloc::{AllocError, Global};
 use zone_spec::{Kind, Name, Zone};
 
 /// The entries of all ftrace zones, merged.
-fn merged_trace(alloc: Global, zones: &[Zone], logs: &Logs) -> Result<Bytes, AllocError>
+fn merged_trace(
+    alloc: Global,
+    zones: &[Zone],
+    given: Option<EntryForm>,
+    logs: &Logs,
+) -> Result<Bytes, AllocError>
     ensures { IfOk result (λ bytes.
-        bytes ≡ trace_of (order_in zones.now) (logs_of Kind.Ftrace (saved logs.now))) }
+        bytes ≡ trace_of (order_in zones.now) given (logs_of Kind.Ftrace (saved logs.now))) }
 {
     let own = ftrace_logs(alloc, logs)?;
-    trace(alloc, order_of(zones), &own)
+    trace(alloc, order_of(zones), given, &own)
 }
 
 /// The record; that of ftrace with this trace.
@@ -55,11 +60,12 @@ fn with_traces(
 pub fn records_traced(
     alloc: Global,
     zones: &[Zone],
+    given: Option<EntryForm>,
     logs: &Logs,
 ) -> Result<Vec<HeldRecord>, AllocError>
-    ensures { IfOk result (λ records. records.items ≡ traced_of zones.now (saved logs.now)) }
+    ensures { IfOk result (λ records. records.items ≡ traced_of zones.now given (saved logs.now)) }
 {
-    let trace = merged_trace(alloc, zones, logs)?;
+    let trace = merged_trace(alloc, zones, given, logs)?;
     let records = held_records(alloc, logs)?;
     with_traces(alloc, &trace, records)
 }

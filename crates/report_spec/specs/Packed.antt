@@ -13,6 +13,7 @@ use Rattle.inflate_spec.specs.declared.Fault.TheVariants.{EndOfInput, ReservedBl
 use Rattle.inflate_spec.specs.declared.Fault.TheVariants.{OverSubscribed, Incomplete, NoEndCode, NoPrevious}
 use Rattle.inflate_spec.specs.declared.Fault.TheVariants.{TooManyLengths, MissingCode, DistanceTooFar}
 use Rattle.inflate_spec.specs.Texts.{Inflates, Breaks, Exceeds}
+use Rattle.ftrace_spec.specs.declared.EntryForm.{EntryForm}
 use Rattle.ftrace_spec.specs.Forms.{trace_of, order_of}
 use Rattle.ftrace_spec.specs.Lines.{trace_text}
 use Rattle.pmsg_spec.specs.declared.Entry.{Entry}
@@ -111,10 +112,11 @@ traced_by (Dump index packed) trace r = r
 traced_by Console trace r = r
 traced_by Pmsg trace r = r
 
--- the records of an image by a layout, with the trace that the logs of all ftrace zones are
-abbrev pub records_traced : List Zone → List Saved → List RecordHeld
-records_traced zones saved =
-    map (λ (r : RecordHeld). traced_by r.name (trace_of (order_of zones) (logs_of FtraceKind saved)) r)
+-- the records of an image by a layout, with the trace that the logs of all ftrace zones are; the form of their entries
+-- may be given
+abbrev pub records_traced : List Zone → Option EntryForm → List Saved → List RecordHeld
+records_traced zones given saved =
+    map (λ (r : RecordHeld). traced_by r.name (trace_of (order_of zones) given (logs_of FtraceKind saved)) r)
     (records_held saved)
 
 -- a dump with its text in place of its bytes
