@@ -6,11 +6,12 @@ use found_regions::{first_address, place_asked};
 use grammar_spec::ParamFault;
 use kernel_line::{KernelLine, LineFault, Module};
 use ramoops_layout::given;
+use region_report::EntryForm;
 use report_entry::{
     Layouts, LayoutsFault, NoLayouts, Place, Said, layouts_by, storages_in, with_storage_words,
 };
 use report_run::{Logs, Storages, WholeMemory, dressed};
-use report_tool::{Format, add_order, add_tag, ftrace_tag, zone_order};
+use report_tool::{Format, Plan, add_order, add_tag, ftrace_tag, zone_order};
 use std::alloc::{AllocError, Global};
 use std::io::ErrorKind;
 use std::rt::Runtime;
@@ -73,12 +74,58 @@ fn read_line<R: Runtime>(
     read.map_err(no_line)
 }
 
+/// The word that gives the bytes of an entry of ftrace logs. It lays nothing out.
+const ENTRY: &str = "ftrace_entry=";
+
+// The value of that word, if it is this one; a kernel's command line would have it as a word of the module.
+fn entry_bytes(word: &str) -> Option<&str> {
+    match word.strip_prefix("ramoops.") {
+        Some(own) => own.strip_prefix(ENTRY),
+        None => word.strip_prefix(ENTRY),
+    }
+}
+
+// The form of the entries of ftrace logs, if a word gives it.
+fn entry_form(matches: &ArgMatches<'_>) -> Result<Option<EntryForm>, NoPlan> {
+    let mut form = None;
+    for word in matches.get_strs("param").unwrap_or(&[]) {
+        let Some(bytes) = entry_bytes(word) else {
+            continue;
+        };
+        if form.is_some() {
+            return Err(NoPlan::Words(anyhow!("{word} gives a parameter again")));
+        }
+        form = match bytes {
+            "24" => Some(EntryForm::Long),
+            "16" => Some(EntryForm::Short),
+            _ => {
+                let fault = anyhow!(
+                    "{word} gives no size of an entry: 24, or 16 of a 32-bit kernel"
+                );
+                return Err(NoPlan::Words(fault));
+            }
+        };
+    }
+    Ok(form)
+}
+
+// The plan, with this form of the entries of ftrace logs.
+fn with_form(plan: Plan, form: Option<EntryForm>) -> Plan {
+    match form {
+        Some(form) => plan.with_entries(form),
+        None => plan,
+    }
+}
+
 fn add_params(
     alloc: Global,
     words: &mut Vec<String>,
     matches: &ArgMatches<'_>,
 ) -> Result<(), NoPlan> {
     for word in matches.get_strs("param").unwrap_or(&[]) {
+        if entry_bytes(word).is_some() {
+            continue;
+        }
         words
             .push(String::from_str(alloc, word)?)
             .map_err(AllocError::from)?;
@@ -451,6 +498,27 @@ fn region_words(storages: Storages, words: &[String]) -> &[String] {
     }
 }
 
+// The layouts with what is asked for besides: the form of ftrace entries, the lines and the functions of a map.
+fn dressed_by(
+    alloc: Global,
+    layouts: Layouts,
+    form: Option<EntryForm>,
+    lines: usize,
+    map: &Option<Vec<u8>>,
+) -> Result<Layouts, NoPlan> {
+    match (layouts, form) {
+        (Layouts::Given(plan), form) => {
+            let plan = with_form(plan, form);
+            Ok(Layouts::Given(dressed(alloc, plan, lines, map)?))
+        }
+        (Layouts::Sought(_), Some(_)) => {
+            let fault = anyhow!("ftrace_entry needs mem_size: a region that is found shows it");
+            Err(NoPlan::Words(fault))
+        }
+        (sought, None) => Ok(sought),
+    }
+}
+
 /// How the images are to be read.
 pub fn asked_by<R: Runtime>(
     rt: &R,
@@ -470,10 +538,7 @@ pub fn asked_by<R: Runtime>(
     let layouts = layouts_of(rt, alloc, matches, region_words(storages, &words), &said)?;
     let lines = line_count(matches)?;
     let map = read_map(rt, alloc, matches)?;
-    let layouts = match layouts {
-        Layouts::Given(plan) => Layouts::Given(dressed(alloc, plan, lines, &map)?),
-        sought => sought,
-    };
+    let layouts = dressed_by(alloc, layouts, entry_form(matches)?, lines, &map)?;
     let format = format(matches);
     let logs = logs_by(matches, words.is_empty() && memory.is_none());
     Ok(Asked {

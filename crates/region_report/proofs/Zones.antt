@@ -2,7 +2,7 @@
 use Rattle.std.proofs.Common.{◌≡◌, ℕ, zero, suc, ◌+◌, ◌-◌, ◌<◌, ◌≤◌, List, [], ◌∷◌, length, take, drop, map, slice_get}
 use Rattle.std.proofs.Common.{get_or, refl, sym, ap, ◌∙◌, subst, arith, inl, inr, Some, length-append, length-take}
 use Rattle.std.proofs.Common.{length-drop}
-use Rattle.std.specs.Prelude.{slice_range}
+use Rattle.std.specs.Prelude.{slice_range, Option}
 use Rattle.std.proofs.lemmas.Bool.{cases_lt}
 use Rattle.std.proofs.lemmas.List.{length-map}
 use Rattle.std.proofs.lemmas.List.Sums.{sum_by-cons}
@@ -16,9 +16,9 @@ use Rattle.prz_region.specs.CutRegion.{cut_at}
 use Rattle.zone_spec.specs.PartStates.{part_states, zone_bytes}
 use Rattle.region_report.specs.declared.report.Readings.{Readings}
 use Rattle.region_report.specs.Reports.{SpansFit, Adds, ReadsTo, IsReport}
-use Rattle.zone_spec.specs.RecordsHeld.{records_held}
 use Rattle.report_spec.specs.declared.Origin.TheVariants.{Region}
-use Rattle.report_spec.specs.Packed.{RecordShown, AreShown}
+use Rattle.ftrace_spec.specs.declared.EntryForm.{EntryForm}
+use Rattle.report_spec.specs.Packed.{RecordShown, AreShown, records_traced}
 
 get-map : {X Y : Type 0} (f : X → Y) (xs : List X) (i : ℕ) (x : X) → slice_get xs i ≡ Some x
     → slice_get (map f xs) i ≡ Some (f x)
@@ -129,16 +129,16 @@ reads-next zones spans n old new z bytes to ez eb adds = record {
 }
 
 -- all zones and the records
-pub report-is : (zones : List Zone) (names image : List ℕ) (spans : List (List ℕ)) (r : Readings)
-    (records : List RecordShown) → spans ≡ (cut_at zones image).spans → ReadsTo zones spans (length zones) r
-    → AreShown zones names (records_held (saved r.logs)) records
-    → IsReport zones names image (record {
+pub report-is : (zones : List Zone) (names : List ℕ) (given : Option EntryForm) (image : List ℕ)
+    (spans : List (List ℕ)) (r : Readings) (records : List RecordShown) → spans ≡ (cut_at zones image).spans → ReadsTo zones spans (length zones) r
+    → AreShown zones names (records_traced zones given (saved r.logs)) records
+    → IsReport zones names given image (record {
       origin = Region;
       logs = r.logs;
       parts = r.parts.items;
       records = records;
     })
-report-is zones names image spans r records same to is = record {
+report-is zones names given image spans r records same to is = record {
   of_region = refl;
   zones_same = to.zones_same;
   readings_len = to.readings_len;

@@ -1,13 +1,13 @@
 -- The report of an image
-use Rattle.std.specs.Prelude.{◌≡◌, ℕ, ◌<◌, List, [], ◌∷◌, ◌++◌, length, slice_get, Some}
+use Rattle.std.specs.Prelude.{◌≡◌, ℕ, ◌<◌, List, [], ◌∷◌, ◌++◌, length, slice_get, Option, Some}
 use Rattle.zone_spec.specs.declared.Zone.{Zone}
 use Rattle.zone_spec.specs.Reading.{zone_reading}
 use Rattle.prz_read.specs.Saving.{SavedLogs, saved}
 use Rattle.zone_spec.specs.PartStates.{PartStates, part_states, zone_bytes}
-use Rattle.zone_spec.specs.RecordsHeld.{records_held}
 use Rattle.report_spec.specs.declared.Origin.{Origin}
 use Rattle.report_spec.specs.declared.Origin.TheVariants.{Region}
-use Rattle.report_spec.specs.Packed.{RecordShown, AreShown}
+use Rattle.ftrace_spec.specs.declared.EntryForm.{EntryForm}
+use Rattle.report_spec.specs.Packed.{RecordShown, AreShown, records_traced}
 use Rattle.region_report.specs.declared.report.Readings.{Readings}
 
 -- what a contract sees of a report: whose records it shows, the saved logs of all zones, how the parts of each zone
@@ -40,9 +40,10 @@ pub record ReadsTo (zones : List Zone) (spans : List (List ℕ)) (n : ℕ) (r : 
   pub parts : (i : ℕ) (z : Zone) (bytes : List ℕ) → i < n → slice_get zones i ≡ Some z
       → slice_get spans i ≡ Some bytes → slice_get r.parts.items i ≡ Some (part_states z bytes)
 
--- the report of an image by a layout, with the functions of a map: each zone's reading, how its parts read, and the
--- records that the readings list, as they are shown
-pub record IsReport (zones : List Zone) (names image : List ℕ) (r : ReportHeld) : Type 0 where
+-- the report of an image by a layout, with the functions of a map and the form of the ftrace entries, if it is given:
+-- each zone's reading, how its parts read, and the records that the readings list, as they are shown
+pub record IsReport (zones : List Zone) (names : List ℕ) (given : Option EntryForm) (image : List ℕ) (r : ReportHeld)
+    : Type 0 where
   pub of_region : r.origin ≡ Region
   pub zones_same : r.logs.zones ≡ zones
   pub readings_len : length r.logs.readings ≡ length zones
@@ -51,4 +52,4 @@ pub record IsReport (zones : List Zone) (names image : List ℕ) (r : ReportHeld
       → slice_get r.logs.readings i ≡ Some (Some (zone_reading z (zone_bytes z image)))
   pub parts : (i : ℕ) (z : Zone) → slice_get zones i ≡ Some z
       → slice_get r.parts i ≡ Some (part_states z (zone_bytes z image))
-  pub records : AreShown zones names (records_held (saved r.logs)) r.records
+  pub records : AreShown zones names (records_traced zones given (saved r.logs)) r.records

@@ -13,6 +13,7 @@ mod naming;
 mod newest;
 mod report;
 mod shown;
+mod traced;
 mod warnings;
 
 pub use counted::counts;
@@ -20,6 +21,7 @@ pub use deaths::{Telling, death_told, has_telling_line, other_told, others_told}
 pub use ends::{End, dump_reason, end_text, end_told};
 pub use excerpts::{below, place_above};
 pub use facts::{Machine, machine_ended, machine_told, seconds, signature_of, uptime};
+pub use ftrace_text::EntryForm;
 pub use laws::one_shown;
 pub use moments::{push_long, push_moment};
 pub use naming::file_name;

@@ -1,5 +1,5 @@
 // The report of an image.
-ghost use Rattle.std.specs.Prelude.{◌≡◌, ◌<◌, ◌^◌, ℕ, Some, length, slice_get, IfOk};
+ghost use Rattle.std.specs.Prelude.{◌≡◌, ◌<◌, ◌^◌, ℕ, Some, None, length, slice_get, IfOk};
 ghost use Rattle.zone_spec.specs.declared.Zone.{Zone as ZoneValue};
 ghost use Rattle.zone_spec.specs.Zones.{IsValidZone};
 ghost use Rattle.zone_spec.specs.Layouts.{IsLayout};
@@ -8,10 +8,11 @@ ghost use Rattle.prz_read.specs.Saving.{AreNumbered};
 ghost use Rattle.region_report.specs.Reports.{SpansFit, ReadsTo, IsReport};
 
 use crate::shown::{RecordReport, shown_records};
+use crate::traced::records_traced;
+use ftrace_text::EntryForm;
 use outside::Bytes;
 use prz_read::{Logs, ZoneParts, read_parts};
 use prz_region::{Region, Span, Spans};
-use pstore_records::held_records;
 use ramoops_layout::types::Layout;
 use report_spec::Origin;
 use std::alloc::{AllocError, Global};
@@ -131,25 +132,26 @@ fn read_zones(alloc: Global, zones: &[Zone], spans: &Spans) -> Result<Readings, 
     Ok(readings)
 }
 
-/// The report of an image by a whole list of zones, with the functions of a map. Each part is decoded once, and each
-/// packed dump inflated once. Takes time linear in the image and in the texts, which have at most 64 times its bytes.
+/// The report of an image by a whole list of zones, with the functions of a map. The entries of its ftrace logs have the
+/// form that is given, or else the one that the logs' bytes show. Each part is decoded once, and each packed dump inflated once. Takes time linear in the image and in the texts, which have at most 64 times its bytes.
 pub fn report_of_zones(
     alloc: Global,
     zones: &[Zone],
     symbols: &Symbols,
+    given: Option<EntryForm>,
     image: Bytes,
 ) -> Result<Report, AllocError>
     requires whole { IsLayout zones.now (length image) }
     requires few { length zones.now < 2 ^ 32 }
     requires numbered { AreNumbered zones.now }
-    ensures { IfOk result (IsReport zones.now symbols.now image) }
+    ensures { IfOk result (IsReport zones.now symbols.now given image) }
 {
     let spans = match Region::from_bytes(image).cut_zones(zones) {
         Ok(spans) => spans,
         Err((_, refused)) => return Err(refused),
     };
     let Readings { logs, parts } = read_zones(alloc, zones, &spans)?;
-    let held = held_records(alloc, &logs)?;
+    let held = records_traced(alloc, zones, given, &logs)?;
     let records = shown_records(alloc, zones, symbols, held)?;
     Ok(Report {
         origin: Origin::Region,
@@ -167,8 +169,8 @@ pub fn report_of(
     image: Bytes,
 ) -> Result<Report, AllocError>
     requires { length image ≡ (params_of layout.now).mem }
-    ensures { IfOk result (IsReport (zones_of layout.now) symbols.now image) }
+    ensures { IfOk result (IsReport (zones_of layout.now) symbols.now None image) }
 {
     let _mem = layout.mem();
-    report_of_zones(alloc, layout.zones(), symbols, image)
+    report_of_zones(alloc, layout.zones(), symbols, None, image)
 }

@@ -1,16 +1,20 @@
 -- A record as it is shown: a dump whose time line says compressed has the text that its bytes stand for
 -- (fs/pstore/platform.c, decompress_record)
-use Rattle.std.specs.Prelude.{◌≡◌, ℕ, ◌*◌, ◌-◌, ◌≤◌, ⊤, true, false, List, [], ◌∷◌, ◌++◌, length, take, slice_get}
+use Rattle.std.specs.Prelude.{◌≡◌, ℕ, ◌*◌, ◌-◌, ◌≤◌, ⊤, true, false, List, [], ◌∷◌, ◌++◌, length, map, take, slice_get}
 use Rattle.std.specs.Prelude.{codes, Option, Some, None}
 use Rattle.zone_spec.specs.declared.Name.{Name}
 use Rattle.zone_spec.specs.declared.Name.TheVariants.{Dump, Console, Pmsg, Ftrace}
 use Rattle.zone_spec.specs.declared.Time.{Time}
 use Rattle.zone_spec.specs.declared.Zone.{Zone}
+use Rattle.zone_spec.specs.declared.Kind.TheVariants.{Ftrace as FtraceKind}
+use Rattle.zone_spec.specs.Records.{Saved, logs_of}
 use Rattle.inflate_spec.specs.declared.Fault.{Fault}
 use Rattle.inflate_spec.specs.declared.Fault.TheVariants.{EndOfInput, ReservedBlock, StoredLength, TooManyCodes}
 use Rattle.inflate_spec.specs.declared.Fault.TheVariants.{OverSubscribed, Incomplete, NoEndCode, NoPrevious}
 use Rattle.inflate_spec.specs.declared.Fault.TheVariants.{TooManyLengths, MissingCode, DistanceTooFar}
 use Rattle.inflate_spec.specs.Texts.{Inflates, Breaks, Exceeds}
+use Rattle.ftrace_spec.specs.declared.EntryForm.{EntryForm}
+use Rattle.ftrace_spec.specs.Forms.{trace_of, order_of}
 use Rattle.ftrace_spec.specs.Lines.{trace_text}
 use Rattle.pmsg_spec.specs.declared.Entry.{Entry}
 use Rattle.pmsg_spec.specs.Entries.{entries}
@@ -19,7 +23,7 @@ use Rattle.report_spec.specs.declared.TextFault.{TextFault}
 use Rattle.report_spec.specs.declared.TextFault.TheVariants.{Broken, TooLong}
 use Rattle.report_spec.specs.declared.Packing.{Packing}
 use Rattle.report_spec.specs.declared.Packing.TheVariants.{Plain, Whole, Part}
-use Rattle.zone_spec.specs.RecordsHeld.{RecordHeld}
+use Rattle.zone_spec.specs.RecordsHeld.{RecordHeld, records_held}
 
 -- a record's name and content as its file has them, the content with its notice, and how many bytes that has; whether
 -- its bytes were packed; and of a pmsg the entries of Android's log, if it has such, with their lines
@@ -100,6 +104,20 @@ as_traced names r =
       entries = [];
       lines = [];
     }
+
+-- a record, whose content is this trace if it is that of ftrace
+abbrev pub traced_by : Name → List ℕ → RecordHeld → RecordHeld
+traced_by Ftrace trace r = record { name = Ftrace; time = r.time; content = trace; notice = [] }
+traced_by (Dump index packed) trace r = r
+traced_by Console trace r = r
+traced_by Pmsg trace r = r
+
+-- the records of an image by a layout, with the trace that the logs of all ftrace zones are; the form of their entries
+-- may be given
+abbrev pub records_traced : List Zone → Option EntryForm → List Saved → List RecordHeld
+records_traced zones given saved =
+    map (λ (r : RecordHeld). traced_by r.name (trace_of (order_of zones) given (logs_of FtraceKind saved)) r)
+    (records_held saved)
 
 -- a dump with its text in place of its bytes
 abbrev pub inflated : RecordHeld → ℕ → List ℕ → ℕ → RecordShown

@@ -1,6 +1,6 @@
 // Android's log and an ftrace log, as people read them.
 use crate::whole_reports::{BARE, has, line_of, page_of, report_by, text_on};
-use ramoops_layout::Params;
+use ramoops_layout::{ByteOrder, Params};
 use region_report::{RecordReport, Report};
 use std::alloc::Global;
 use std::process::Abort;
@@ -40,6 +40,11 @@ CPU:3 ts:4712 00000010  00000000  0x10 <- 0x0
 CPU:0 ts:1 ffffffff81101fff  ffffffff81102000  run_work <- 0xffffffff81102000
 CPU:0 ts:2 ffffffff81001001  ffffffff81001ffe  do_work [usbcore] <- do_work+0xffe [usbcore]
 ";
+
+// What Linux 6.1 left on a 32-bit ARM and on a big-endian MIPS of 32 bits: entries of 16 bytes.
+const ARM: &[u8] = b"\x34\xfa\x20\xc0\x28\xfd\x20\xc0\0\0\0\0\0\0\0\0";
+
+const MIPS: &[u8] = b"\x80\x21\x9d\x28\x80\x21\xa0\xa0\0\0\0\0\0\0\0\0";
 
 fn params(pmsg: u64, ftrace: u64) -> Params {
     Params {
@@ -104,6 +109,35 @@ fn trace_with_functions(rt: HostRuntime) -> Result<(), Fail> {
     let report = reported(rt.alloc(), &params(0, 4096), 0x4341_4384, FTRACE)?;
     let record = first(&rt, &report);
     assert!(rt; record.name == Name::Ftrace && record.content.as_slice() == TRACE.as_bytes());
+    Ok(())
+}
+
+#[test]
+fn trace_of_an_arm(rt: HostRuntime) -> Result<(), Fail> {
+    let report = reported(rt.alloc(), &params(0, 4096), 0x4341_4384, ARM)?;
+    let line = b"CPU:0 ts:0 c020fa34  c020fd28  0xc020fa34 <- 0xc020fd28\n";
+    assert!(rt; first(&rt, &report).content.as_slice() == line);
+    Ok(())
+}
+
+// The image of an ftrace zone of 4096 bytes that a big-endian machine wrote, with a log of 16 bytes.
+fn big_image(alloc: Global, log: &[u8]) -> Result<Vec<u8>, Fail> {
+    let mut bytes = Vec::from_slice(alloc, b"\x43\x41\x43\x84\0\0\0\x10\0\0\0\x10")?;
+    bytes.extend_from_slice(log)?;
+    bytes.resize(4096, 0)?;
+    Ok(bytes)
+}
+
+#[test]
+fn trace_of_a_mips(rt: HostRuntime) -> Result<(), Fail> {
+    let params = Params {
+        byte_order: ByteOrder::Big,
+        ..params(0, 4096)
+    };
+    let image = big_image(rt.alloc(), MIPS)?;
+    let report = report_by(rt.alloc(), &params, image, &Symbols::none(rt.alloc()))?;
+    let line = b"CPU:0 ts:0 80219d28  8021a0a0  0x80219d28 <- 0x8021a0a0\n";
+    assert!(rt; first(&rt, &report).content.as_slice() == line);
     Ok(())
 }
 

@@ -34,7 +34,7 @@ found_within known image o f e h =
 
 -- the words of a layout by its report
 pub judged : {E : Type 0} (c : Candidate) (image : List ℕ) (plan : Plan) (report : ReportHeld) (badly : Bool)
-    → IsLaid (params_of c) plan → IsReport plan.zones.items plan.symbols (take plan.mem image) report
+    → IsLaid (params_of c) plan → IsReport plan.zones.items plan.symbols plan.entries (take plan.mem image) report
     → badly ≡ reads_badly report → (r : Result (String Global) E)
     → IfOk r (λ words. string_bytes words ≡ words_unless badly (layout_words c (length image)))
     → IfOk r (λ words. AreWordsOf c image (string_bytes words))

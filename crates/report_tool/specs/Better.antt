@@ -39,7 +39,7 @@ pub record AreWordsOf (c : Candidate) (image words : List ℕ) : Type 0 where
   pub plan : Plan
   pub laid : IsLaid (params_of c) plan
   pub report : ReportHeld
-  pub is_report : IsReport plan.zones.items plan.symbols (take plan.mem image) report
+  pub is_report : IsReport plan.zones.items plan.symbols plan.entries (take plan.mem image) report
   pub words_are : words ≡ words_unless (reads_badly report) (layout_words c (length image))
 
 abbrev pub AreTakenWords : Bool → Candidate → List ℕ → List ℕ → Type 0

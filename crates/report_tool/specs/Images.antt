@@ -14,7 +14,7 @@ use Rattle.report_tool.specs.Shown.{Shows}
 -- the report of an image that a store holds in front
 pub record IsRead (plan : Plan) (holds : Option (List ℕ)) (report : ReportHeld) : Type 0 where
   pub bytes : List ℕ
-  pub of_bytes : IsReport plan.zones.items plan.symbols bytes report
+  pub of_bytes : IsReport plan.zones.items plan.symbols plan.entries bytes report
   pub held : IfSome holds (λ bs. (plan.mem ≤ length bs) × (bytes ≡ take plan.mem bs))
 
 -- it was read, and written in a format to the sink, with the words of a layout that explains it better, if it was

@@ -1,5 +1,5 @@
 -- The plan by which images are read, and why there is none
-use Rattle.std.specs.Prelude.{◌≡◌, Bool, true, false, List, [], Ok, Err}
+use Rattle.std.specs.Prelude.{◌≡◌, Bool, true, false, List, [], None, Ok, Err}
 use Rattle.std.specs.declared.string.String.{String}
 use Rattle.std.specs.declared.alloc.Global.{Global}
 use Rattle.std.specs.Result.{IsOk}
@@ -11,12 +11,14 @@ use Rattle.report_tool.specs.declared.plan.Plan.{Plan}
 use Rattle.report_tool.specs.declared.plan.PlanFault.{PlanFault}
 use Rattle.report_tool.specs.declared.plan.PlanFault.TheVariants.{Memory, Word, Layout}
 
--- a plan of these parameters, without a map of functions, and with ten last lines, which nobody gave
+-- a plan of these parameters, without a map of functions and a form of ftrace entries, and with ten last lines, which
+-- nobody gave
 pub record IsLaid (p : Params) (plan : Plan) : Type 0 where
   pub params_same : plan.params ≡ p
   pub mem_is : plan.mem ≡ p.mem
   pub zones_are : layout_of p ≡ Ok plan.zones.items
   pub symbols_none : plan.symbols ≡ []
+  pub entries_none : plan.entries ≡ None
   pub lines_ten : plan.lines ≡ 10
   pub not_given : plan.is_given ≡ false
 

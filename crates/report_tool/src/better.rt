@@ -42,7 +42,7 @@ fn reads_badly(alloc: Global, report: &Report) -> Result<bool, AllocError>
 // The report of an image's front by a plan.
 fn front_report(alloc: Global, plan: &Plan, image: &[u8]) -> Result<Report, AllocError>
     requires { plan.now.mem ≤ length image.now }
-    ensures { IfOk result (IsReport plan.now.zones.items plan.now.symbols (take plan.now.mem image.now)) }
+    ensures { IfOk result (IsReport plan.now.zones.items plan.now.symbols plan.now.entries (take plan.now.mem image.now)) }
 {
     let front = Bytes::copy_of(alloc, &image[..plan.mem as usize])?;
     report_of_bytes(alloc, plan, front)

@@ -21,9 +21,9 @@ pub(crate) fn report_of_bytes(
     bytes: Bytes,
 ) -> Result<Report, AllocError>
     requires { length bytes ≡ plan.now.mem }
-    ensures { IfOk result (IsReport plan.now.zones.items plan.now.symbols bytes) }
+    ensures { IfOk result (IsReport plan.now.zones.items plan.now.symbols plan.now.entries bytes) }
 {
-    report_of_zones(alloc, &plan.zones, &plan.symbols, bytes)
+    report_of_zones(alloc, &plan.zones, &plan.symbols, plan.entries, bytes)
 }
 
 // Reads an image.

@@ -1,11 +1,12 @@
 // How images are read.
-ghost use Rattle.std.specs.Prelude.{◌≡◌, ◌<◌, ◌^◌, true, Ok, MatchResult};
+ghost use Rattle.std.specs.Prelude.{◌≡◌, ◌<◌, ◌^◌, true, Some, Ok, MatchResult};
 ghost use Rattle.zone_spec.specs.Layout.{layout_of};
 ghost use Rattle.ramoops_layout.specs.Layouts.{IsCause};
 ghost use Rattle.report_tool.specs.Layouts.{read_by};
 
 use grammar_spec::ParamFault;
 use ramoops_layout::{DEFAULTS, LayoutError, layout, read_words, read_words_over};
+use region_report::EntryForm;
 use std::alloc::Global;
 use symbols::Symbols;
 use zone_spec::{LayoutFault, Params, Zone};
@@ -23,14 +24,15 @@ pub enum PlanFault {
     Layout(LayoutFault),
 }
 
-/// How images are read: the parameters, the bytes of an image, its zones, the functions of the kernel,
-/// and how many lines of the newest dump a text has.
+/// How images are read: the parameters, the bytes of an image, its zones, the functions of the kernel, the form of the
+/// entries of ftrace logs, if it is given, and how many lines of the newest dump a text has.
 #[derive(Drop)]
 pub struct Plan {
     pub(crate) params: Params,
     pub(crate) mem: u32,
     pub(crate) zones: Vec<Zone>,
     pub(crate) symbols: Symbols,
+    pub(crate) entries: Option<EntryForm>,
     pub(crate) lines: usize,
     /// Whether words or a device tree give the parameters, and not the image itself.
     pub(crate) is_given: bool,
@@ -64,6 +66,7 @@ impl Plan {
             mem,
             zones: layout.into_zones(),
             symbols: Symbols::none(alloc),
+            entries: None,
             lines: LINES,
             is_given: false,
         })
@@ -85,6 +88,7 @@ impl Plan {
             mem,
             zones,
             symbols: _,
+            entries,
             lines,
             is_given,
         } = self;
@@ -93,6 +97,31 @@ impl Plan {
             mem,
             zones,
             symbols,
+            entries,
+            lines,
+            is_given,
+        }
+    }
+
+    /// The same plan, by which all entries of ftrace logs have this form; else their bytes show it.
+    pub fn with_entries(self, form: EntryForm) -> Plan
+        ensures { result ≡ record self { entries = Some form } }
+    {
+        let Plan {
+            params,
+            mem,
+            zones,
+            symbols,
+            entries: _,
+            lines,
+            is_given,
+        } = self;
+        Plan {
+            params,
+            mem,
+            zones,
+            symbols,
+            entries: Some(form),
             lines,
             is_given,
         }
@@ -107,6 +136,7 @@ impl Plan {
             mem,
             zones,
             symbols,
+            entries,
             lines: _,
             is_given,
         } = self;
@@ -115,6 +145,7 @@ impl Plan {
             mem,
             zones,
             symbols,
+            entries,
             lines,
             is_given,
         }
@@ -129,6 +160,7 @@ impl Plan {
             mem,
             zones,
             symbols,
+            entries,
             lines,
             is_given: _,
         } = self;
@@ -137,6 +169,7 @@ impl Plan {
             mem,
             zones,
             symbols,
+            entries,
             lines,
             is_given: true,
         }

@@ -21,7 +21,7 @@ read_zones-requires-clause-fit c =
 
 pub returns : goal.returns
 returns c =
-    report-is c.args.zones.now c.args.symbols.now c.args.image c.in-Ok.spans.spans c.in_ok-logs.field-0 c.in_ok-records.records.items
+    report-is c.args.zones.now c.args.symbols.now c.args.given c.args.image c.in-Ok.spans.spans c.in_ok-logs.field-0 c.in_ok-records.records.items
     (ap (λ (cut : CutRegion). cut.spans) (c.in-Ok.ensures ∙ ap (cut_at c.args.zones.now) c.from_bytes.ensures))
     c.in_ok-logs.ensures (subst (λ (rs : List RecordHeld). AreShown c.args.zones.now c.args.symbols.now rs c.in_ok-records.records.items)
     c.in_ok-held.ensures c.in_ok-records.ensures)
