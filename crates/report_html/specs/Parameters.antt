@@ -44,7 +44,7 @@ ftrace_rows p =
     ++ byte_order_parts p.byte_order
 
 abbrev pub region_rows : Params → List Part
-region_rows p = size_rows p ++ parity_rows p ++ ftrace_rows p ++ byte_order_parts p.byte_order
+region_rows p = size_rows p ++ parity_rows p ++ ftrace_rows p
 
 -- in bytes
 abbrev pub storage_rows : Sizes → List Part

@@ -101,7 +101,6 @@ fn add_region(pieces: &mut Vec<Piece<'_>>, params: &Params) -> Result<(), AllocE
     add_sizes(pieces, params)?;
     add_parity(pieces, params)?;
     add_ftrace(pieces, params)?;
-    add_byte_order(pieces, params.byte_order)?;
     Ok(())
 }
 
