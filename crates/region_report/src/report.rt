@@ -132,8 +132,9 @@ fn read_zones(alloc: Global, zones: &[Zone], spans: &Spans) -> Result<Readings, 
     Ok(readings)
 }
 
-/// The report of an image by a whole list of zones, with the functions of a map. The entries of its ftrace logs have the
-/// form that is given, or else the one that the logs' bytes show. Each part is decoded once, and each packed dump inflated once. Takes time linear in the image and in the texts, which have at most 64 times its bytes.
+/// The report of an image by a whole list of zones, with the functions of a map. The entries of its ftrace logs have
+/// the form that is given, or else the one that the logs' bytes show. Each part is decoded once, and each packed dump
+/// inflated once. Takes time linear in the image and in the texts, which have at most 64 times its bytes.
 pub fn report_of_zones(
     alloc: Global,
     zones: &[Zone],
