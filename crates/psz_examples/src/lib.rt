@@ -38,8 +38,8 @@ pub fn layouts()
     ensures most { MostRow }
 {}
 
-/// The headers of dumps of a 64-bit kernel, of one of x86 of 32 bits and of big-endian ones of 64 and 32 bits, and what a
-/// boot takes dump zones for.
+/// The headers of dumps of a 64-bit kernel, of one of x86 of 32 bits and of big-endian ones of 64 and 32 bits, and what
+/// a boot takes dump zones for.
 pub fn headers()
     ensures wide { WideHeaderRow }
     ensures x86 { X86HeaderRow }
@@ -78,7 +78,8 @@ pub fn rings()
     ensures big_console { BigConsoleRow }
 {}
 
-/// Storages of four zones as the next boot lists them, one of a big-endian machine, and their next zones; lines and names.
+/// Storages of four zones as the next boot lists them, one of a big-endian machine, and their next zones; lines and
+/// names.
 pub fn listings()
     ensures listing { ListingRow }
     ensures total { TotalRow }

@@ -37,8 +37,8 @@ word_front : (order : ByteOrder) (n : ℕ) (bytes : List ℕ) (at : ℕ) → at 
     → word order (take n bytes) at ≡ word order bytes at
 unfolding word
 word_front order n bytes at h =
-    four order (slice_index (take n bytes) at) (slice_index (take n bytes) (at + 1)) (slice_index (take n bytes) (at + 2))
-    (slice_index (take n bytes) (at + 3)) (slice_index bytes at) (slice_index bytes (at + 1))
+    four order (slice_index (take n bytes) at) (slice_index (take n bytes) (at + 1))
+    (slice_index (take n bytes) (at + 2)) (slice_index (take n bytes) (at + 3)) (slice_index bytes at) (slice_index bytes (at + 1))
     (slice_index bytes (at + 2)) (slice_index bytes (at + 3)) (get_or-take n bytes at 0 (omega (arith, h)))
     (get_or-take n bytes (at + 1) 0 (omega (arith, h))) (get_or-take n bytes (at + 2) 0 (omega (arith, h)))
     (get_or-take n bytes (at + 3) 0 (omega (arith, h)))
@@ -114,8 +114,8 @@ signed_by machine z Console words header = ring_state z words
 signed_by machine z Ftrace words header = ring_state z words
 
 signed_is : (machine : Machine) (z : Zone) (kind : Kind) (bytes : List ℕ)
-    → signed_state machine z kind bytes ≡ signed_by machine z kind (words_of machine bytes) (dump_header machine (data_of
-    bytes))
+    → signed_state machine z kind bytes
+    ≡ signed_by machine z kind (words_of machine bytes) (dump_header machine (data_of bytes))
 signed_is machine z Dump bytes = refl
 signed_is machine z Pmsg bytes = refl
 signed_is machine z Console bytes = refl
@@ -157,7 +157,8 @@ with_by machine z Console words header = record { zone = z; log = ring_log z wor
 with_by machine z Ftrace words header = record { zone = z; log = ring_log z words; header = None }
 
 with_is : (machine : Machine) (z : Zone) (kind : Kind) (bytes : List ℕ)
-    → part_with machine z kind bytes ≡ with_by machine z kind (words_of machine bytes) (dump_header machine (data_of bytes))
+    → part_with machine z kind bytes
+    ≡ with_by machine z kind (words_of machine bytes) (dump_header machine (data_of bytes))
 with_is machine z Dump bytes = refl
 with_is machine z Pmsg bytes = refl
 with_is machine z Console bytes = refl
@@ -184,7 +185,8 @@ found_by machine Console words header = None
 found_by machine Ftrace words header = None
 
 found_is : (machine : Machine) (kind : Kind) (bytes : List ℕ)
-    → found_fault machine kind bytes ≡ found_by machine kind (words_of machine bytes) (dump_header machine (data_of bytes))
+    → found_fault machine kind bytes
+    ≡ found_by machine kind (words_of machine bytes) (dump_header machine (data_of bytes))
 found_is machine Dump bytes = refl
 found_is machine Pmsg bytes = refl
 found_is machine Console bytes = refl

@@ -143,7 +143,8 @@ signed_found machine z bytes h =
 
 -- ---- logs
 
-ring_bytes : (machine : Machine) (z : Zone) (image : List ℕ) (words : Words) → words ≡ words_of machine (zone_bytes z image)
+ring_bytes : (machine : Machine) (z : Zone) (image : List ℕ) (words : Words)
+    → words ≡ words_of machine (zone_bytes z image)
     → ring_state z words ≡ Found → log_bytes image (ring_log z words) ≡ log_of machine (zone_bytes z image)
 ring_bytes machine z image words e h =
     let i : Inside z words.start words.len = ring_inside z words h in
@@ -258,7 +259,8 @@ trace_case machine image z Ftrace NoDump s = refl
 trace_case machine image z Ftrace Erased s = refl
 trace_case machine image z Ftrace Broken s = refl
 trace_case machine image z Ftrace Found s =
-    ap (λ (log : List ℕ). log ∷ []) (sym (ring_bytes machine z image (words_of machine (zone_bytes z image)) refl (s refl)))
+    ap (λ (log : List ℕ). log ∷ [])
+    (sym (ring_bytes machine z image (words_of machine (zone_bytes z image)) refl (s refl)))
 
 -- ---- all zones
 

@@ -73,16 +73,17 @@ fold_end f c zones i past = ap (λ (zs : List Zone). fold f c zs) (drop_all i zo
 
 pub marks_step : (order : ByteOrder) (n i : ℕ) (image : List ℕ) → i < n
     → marks_from order (n - i) (i * 512) image
-    ≡ as_marks (mark_at order (length image) (i * 512) (drop (i * 512) image)) ++ marks_from order (n - (i + 1)) ((i + 1) * 512)
-    image
+    ≡ as_marks (mark_at order (length image) (i * 512) (drop (i * 512) image))
+    ++ marks_from order (n - (i + 1)) ((i + 1) * 512) image
 unfolding marks_from
 marks_step order n i image h =
     ap (λ (m : ℕ). marks_from order m (i * 512) image) (let e : n - i ≡ suc (n - (i + 1)) = omega (arith, h) in e)
-    ∙ ap (λ (at : ℕ). as_marks (mark_at order (length image) (i * 512) (drop (i * 512) image)) ++ marks_from order (n - (i + 1))
-    at image)
+    ∙ ap (λ (at : ℕ). as_marks (mark_at order (length image) (i * 512) (drop (i * 512) image))
+    ++ marks_from order (n - (i + 1)) at image)
     (let e : i * 512 + 512 ≡ (i + 1) * 512 = omega arith in e)
 
-pub marks_more : (order : ByteOrder) (n i : ℕ) (image : List ℕ) (marks : List Mark) (m : Option Mark) (whole : List Mark) → i < n
+pub marks_more : (order : ByteOrder) (n i : ℕ) (image : List ℕ) (marks : List Mark) (m : Option Mark) (whole : List Mark)
+    → i < n
     → m ≡ mark_at order (length image) (i * 512) (drop (i * 512) image)
     → marks ++ marks_from order (n - i) (i * 512) image ≡ whole
     → (marks ++ as_marks m) ++ marks_from order (n - (i + 1)) ((i + 1) * 512) image ≡ whole
@@ -187,7 +188,8 @@ unfolding little_machine
 machine_own image ms i d lt h = ap (little_machine image) (drop_more ms i d lt) ∙ rw h refl
 
 pub machine_other : (image : List ℕ) (ms : List Mark) (i : ℕ) (d : Mark) → i < length ms
-    → is_of Dump (get_or ms i d).kind ≡ false → little_machine image (drop i ms) ≡ little_machine image (drop (i + 1) ms)
+    → is_of Dump (get_or ms i d).kind ≡ false
+    → little_machine image (drop i ms) ≡ little_machine image (drop (i + 1) ms)
 unfolding little_machine
 machine_other image ms i d lt h = ap (little_machine image) (drop_more ms i d lt) ∙ rw h refl
 

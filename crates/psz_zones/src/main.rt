@@ -1,7 +1,7 @@
 //! Prints what a storage holds that the kernel's pstore_zone wrote. Its input is storages, each after eight words of
 //! four bytes, little endian: how many bytes follow, the sizes (total, pmsg, console, ftrace, dump, processors), and the
-//! machine: 0 aligned, 1 x86 of 32 bits, 2 big-endian. Of each storage it prints the sizes and the machine that its bytes show, and
-//! then the first fault of the sizes, or a line of each zone, of each part and of the next dump.
+//! machine: 0 aligned, 1 x86 of 32 bits, 2 big-endian. Of each storage it prints the sizes and the machine that its
+//! bytes show, and then the first fault of the sizes, or a line of each zone, of each part and of the next dump.
 #![tactic(auto)]
 
 ghost use Rattle.std.specs.Prelude.{◌≡◌, ◌+◌, ◌*◌, ◌^◌, ◌<◌, ◌≤◌, length, None};

@@ -18,8 +18,8 @@ use symbols::Symbols;
 /// The most bytes of a report's text.
 const MOST: u32 = 1_048_576;
 
-/// Bytes of a storage of a big-endian machine, and their places: a pmsg that went round, a console, a dump of 32 bits of
-/// nanoseconds that is compressed to one stored block, and a newer one of 64.
+/// Bytes of a storage of a big-endian machine, and their places: a pmsg that went round, a console, a dump of a machine
+/// of 32 bits that is compressed to one stored block, and a newer one of a machine of 64.
 const BIG: [(usize, &[u8]); 6] = [
     (0, b"CGBC\0\0\0\x04\0\0\0\x02yesa"),
     (512, b"CGBF\0\0\0\x07\0\0\0\x07booted\n"),

@@ -5,4 +5,5 @@ use Rattle.psz_read.proofs.marks.marks_in.Given as goal
 
 abbrev pub invariant-loop-block : goal.invariant-loop-block
 invariant-loop-block l =
-    l.marks.items ++ marks_from l.order (length l.image / 512 - l.block) (l.block * 512) l.image ≡ marks_in l.order l.image
+    l.marks.items ++ marks_from l.order (length l.image / 512 - l.block) (l.block * 512) l.image
+    ≡ marks_in l.order l.image

@@ -25,5 +25,6 @@ returns c =
           (take_all c.loop-zone.zone-index items (omega (arith, past)) ∙ order);
       parts = c.loop-zone.invariant.parts
           ∙ ap (λ (n : ℕ). replicate n no_parts)
-          (all ∙ sym (length-map items (zone_of c.args.machine)) ∙ ap (λ (zs : List Zone). length (map (zone_of c.args.machine) zs)) order);
+          (all ∙ sym (length-map items (zone_of c.args.machine))
+          ∙ ap (λ (zs : List Zone). length (map (zone_of c.args.machine) zs)) order);
     }
