@@ -5,3 +5,4 @@ mod Divisors
 mod Fronts
 mod PartRecords
 mod CursorSteps
+mod Agreeing

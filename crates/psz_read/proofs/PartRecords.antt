@@ -315,7 +315,7 @@ traces_are machine zones image = by_zone (λ (z : Zone). is_of Ftrace z.kind)
     (λ z. trace_case machine image z z.kind (state_of machine z (zone_bytes z image))
     (signed_found machine z (zone_bytes z image))) zones
 
-together : (a b c : List Listed) (t : List (List ℕ)) (d e f : List Listed) (u : List (List ℕ)) → a ≡ d → t ≡ u
+pub together : (a b c : List Listed) (t : List (List ℕ)) (d e f : List Listed) (u : List (List ℕ)) → a ≡ d → t ≡ u
     → b ≡ e → c ≡ f → a ++ ftrace_listed t ++ b ++ c ≡ d ++ ftrace_listed u ++ e ++ f
 together a b c t d e f u p q r s = rw (p, q, r, s) refl
 

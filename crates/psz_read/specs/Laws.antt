@@ -8,10 +8,11 @@ use Rattle.psz_spec.specs.declared.Zone.{Zone}
 use Rattle.psz_spec.specs.declared.Machine.{Machine}
 use Rattle.psz_spec.specs.declared.Cursor.{Cursor}
 use Rattle.psz_spec.specs.declared.Mark.{Mark}
-use Rattle.psz_spec.specs.States.{state_of}
+use Rattle.psz_spec.specs.declared.Part.{Part}
+use Rattle.psz_spec.specs.States.{zone_bytes, state_of}
 use Rattle.psz_spec.specs.Failures.{kernel_fault}
 use Rattle.psz_spec.specs.Records.{is_of, records_of, traces_of, listed_in}
-use Rattle.psz_spec.specs.Parts.{part_of, parts_of, of_kind, records_from}
+use Rattle.psz_spec.specs.Parts.{part_of, parts_of, of_kind, records_from, log_bytes}
 use Rattle.psz_spec.specs.Cursor.{with_bytes}
 use Rattle.psz_spec.specs.Marks.{gcd, first_of, step_of}
 
@@ -69,3 +70,15 @@ StepIsGreatest = (kind : Kind) (first : Mark) (ms : List Mark) (d : ℕ) → fir
 -- Euclid's algorithm finds the greatest common divisor
 abbrev pub GcdIsGreatest : Type 0
 GcdIsGreatest = (a b : ℕ) → IsGcd a b (gcd a b)
+
+-- what of a zone's bytes a listing takes: its first 52, and the log of its part
+pub record ReadsTheSame (machine : Machine) (z : Zone) (a b : List ℕ) : Type 0 where
+  pub front : take 52 (zone_bytes z a) ≡ take 52 (zone_bytes z b)
+  pub log : (part : Part) → part_of machine z (zone_bytes z a) ≡ Some part
+      → log_bytes a part.log ≡ log_bytes b part.log
+
+-- so a copy with these bytes, and any others, lists the same
+abbrev pub FewBytesAreEnough : Type 0
+FewBytesAreEnough = (machine : Machine) (zones : List Zone) (a b : List ℕ)
+    → AllByRecursion (λ (z : Zone). ReadsTheSame machine z a b) zones
+    → listed_in machine zones a ≡ listed_in machine zones b

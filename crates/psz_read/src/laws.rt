@@ -1,6 +1,7 @@
 // What a reader may rest on.
 ghost use Rattle.psz_read.specs.Laws.{StateOfFront, FaultOfFront, PartOfFront, CursorOfFront, EachByItself};
-ghost use Rattle.psz_read.specs.Laws.{TracesByThemselves, PartsAreRecords, GcdIsGreatest, StepDivides, StepIsGreatest};
+ghost use Rattle.psz_read.specs.Laws.{FewBytesAreEnough, TracesByThemselves, PartsAreRecords, GcdIsGreatest};
+ghost use Rattle.psz_read.specs.Laws.{StepDivides, StepIsGreatest};
 
 /// A zone's first 52 bytes decide its state, where the kernel fails at it, its part, and the cursor.
 pub fn front_is_enough()
@@ -8,6 +9,11 @@ pub fn front_is_enough()
     ensures fault { FaultOfFront }
     ensures part { PartOfFront }
     ensures cursor { CursorOfFront }
+{}
+
+/// What the next boot lists depends on each zone's first 52 bytes and on the logs of the listed records alone.
+pub fn few_bytes_are_enough()
+    ensures { FewBytesAreEnough }
 {}
 
 /// What some zones list stands beside what others list, whatever their state.
