@@ -115,7 +115,7 @@ fn trace_with_functions(rt: HostRuntime) -> Result<(), Fail> {
 #[test]
 fn trace_of_an_arm(rt: HostRuntime) -> Result<(), Fail> {
     let report = reported(rt.alloc(), &params(0, 4096), 0x4341_4384, ARM)?;
-    let line = b"CPU:0 ts:0 c020fa34  c020fd28  0xc020fa34 <- 0xc020fd28\n";
+    let line = b"CPU:0 ts:0 c020fa34  c020fd28  0xc020fa34 <- 0xc020fd28\n".as_slice();
     assert!(rt; first(&rt, &report).content.as_slice() == line);
     Ok(())
 }
@@ -136,7 +136,7 @@ fn trace_of_a_mips(rt: HostRuntime) -> Result<(), Fail> {
     };
     let image = big_image(rt.alloc(), MIPS)?;
     let report = report_by(rt.alloc(), &params, image, &Symbols::none(rt.alloc()))?;
-    let line = b"CPU:0 ts:0 80219d28  8021a0a0  0x80219d28 <- 0x8021a0a0\n";
+    let line = b"CPU:0 ts:0 80219d28  8021a0a0  0x80219d28 <- 0x8021a0a0\n".as_slice();
     assert!(rt; first(&rt, &report).content.as_slice() == line);
     Ok(())
 }
