@@ -13,13 +13,12 @@ use serde_json::{Value, json};
 use std::alloc::{AllocError, Global};
 use zone_spec::{Kind, Params, State, Words, Zone, ZoneName};
 
-/// The parameters as they were given.
+/// The parameters as they were given, but for the two orders: the places of the zones show theirs.
 fn parameters_value(alloc: Global, p: &Params) -> Result<Value, AllocError>
     ensures { IfOk result (λ v. view v ≡ parameters_data p.now) }
 {
     json!(in alloc; {
         "block_size": p.block,
-        "byte_order": p.byte_order.text(),
         "console_size": p.console,
         "cpus": p.cpus,
         "ecc": p.ecc,
@@ -30,7 +29,6 @@ fn parameters_value(alloc: Global, p: &Params) -> Result<Value, AllocError>
         "ftrace_sig": p.ftrace_sig,
         "ftrace_size": p.ftrace,
         "mem_size": p.mem,
-        "order": p.order.text(),
         "pmsg_size": p.pmsg,
         "record_size": p.dump
     })
