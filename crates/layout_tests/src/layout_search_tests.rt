@@ -154,8 +154,8 @@ fn a_big_endian_region(rt: HostRuntime) -> Result<(), Fail> {
 #[test]
 fn a_big_endian_region_with_parity(rt: HostRuntime) -> Result<(), Fail> {
     let mut image = big_zones(rt.alloc(), 4, 512, &BIG_FRESH_PARITY)?;
-    for at in 0..4 {
-        image[at] = 0xff;
+    for byte in image.iter_mut().take(4) {
+        *byte = 0xff;
     }
     let found = search(rt.alloc(), &image, &Known::default())?.ok_or("none")?;
     let layout = found.candidate;
