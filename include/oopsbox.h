@@ -61,7 +61,8 @@ enum { OOPSBOX_UNSIGNED = 0, OOPSBOX_EMPTY = 1, OOPSBOX_INVALID = 2, OOPSBOX_FOU
 
 /* A zone of a layout. All lengths are bytes. 36 bytes. */
 struct oopsbox_zone_place {
-	uint32_t kind;   /* OOPSBOX_DUMP .. OOPSBOX_PMSG */
+	uint16_t kind;   /* OOPSBOX_DUMP .. OOPSBOX_PMSG */
+	uint16_t byte_order; /* of the header's words. 0: little-endian; 1: big-endian */
 	uint32_t index;  /* its number among the zones of this kind, from 0 */
 	uint32_t at;     /* its first byte in the image */
 	uint32_t size;   /* its length */
@@ -131,13 +132,14 @@ struct oopsbox_params {
 	uint64_t ecc_ftrace;
 	uint64_t ecc_pmsg;
 	uint32_t ftrace_sig;  /* the tag in the signature of ftrace zones */
-	uint32_t order;       /* 0: ftrace zones before pmsg, as Linux 6.1; 1: pmsg before them, as Linux 6.12 */
+	uint16_t order;       /* 0: ftrace zones before pmsg, as Linux 6.1; 1: pmsg before them, as Linux 6.12 */
+	uint16_t byte_order;  /* of the headers' words. 0: little-endian; 1: big-endian */
 };
 
 /* An initializer: the module's first six parameters in their order, the parity in bytes and for each kind of zone; one
    ftrace zone without a tag, and blocks of 128 bytes, as the kernel has them. */
 #define OOPSBOX_PARAMS(mem, record_size, console_size, ftrace_size, pmsg_size, ecc) \
-	{(mem), (record_size), (console_size), (ftrace_size), (pmsg_size), (ecc), 1, 128, (ecc), (ecc), (ecc), (ecc), 0, 0}
+	{(mem), (record_size), (console_size), (ftrace_size), (pmsg_size), (ecc), 1, 128, (ecc), (ecc), (ecc), (ecc), 0, 0, 0}
 
 /*
  * The zone of this kind (OOPSBOX_DUMP .. OOPSBOX_PMSG) and this number among the zones of its kind, from 0, in the
@@ -200,7 +202,7 @@ struct oopsbox_store {
 	uint32_t what;      /* OOPSBOX_WORD .. OOPSBOX_BYTES */
 	uint32_t place;     /* counted from the zone's first byte */
 	uint32_t len;       /* how many bytes; 4 for a word */
-	uint32_t word;      /* WORD: the word; it stands little-endian in memory */
+	uint32_t word;      /* WORD: the four bytes as a little-endian number */
 	uint8_t bytes[128]; /* BYTES: the first len of these; WORD: the first four are the word's */
 };
 
@@ -435,7 +437,7 @@ struct oopsbox_report_answer {
  * On all of these the rest of text is as it was.
  *
  * OOPSBOX_FAULT: *answer tells the fault (a word's: 1 unknown key, 2 twice, 3 no number; else word is 0: the layout's,
- * or 101 to 105, where block_size, ecc_dump, ecc_console, ecc_ftrace or ecc_pmsg is given without mem_size; or 201 to
+ * or 101 to 106, where block_size, ecc_dump, ecc_console, ecc_ftrace, ecc_pmsg or byte_order is given without mem_size; or 201 to
  * 207: the image is no storage of the sizes that words give).
  * OOPSBOX_SHORT: the image has fewer bytes than answer->needed.
  * OOPSBOX_TREE: answer->fault is 1 to 13: the tree is broken; 14: it has no ramoops node; 15: it has several; 16: a word

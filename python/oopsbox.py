@@ -28,7 +28,7 @@ __all__ = ["Error", "Record", "Report", "Ring", "Run", "Zone", "boot", "layout",
 
 DONE, FAULT, SHORT, ROOM, ARGUMENT, MEMORY, BAD, CLOSED, UNLAID, TREE = 0, 3, 4, 12, 13, 14, 15, 16, 17, 18
 
-Zone = namedtuple("Zone", "kind index at size cap blocks parity block sig")
+Zone = namedtuple("Zone", "kind index at size cap blocks parity block sig byte_order")
 Record = namedtuple("Record", "name time content")
 Run = namedtuple("Run", "status text image")
 Report = namedtuple("Report", "text hint")
@@ -45,7 +45,8 @@ class Error(Exception):
 
 
 class _Place(ctypes.Structure):
-    _fields_ = [(name, ctypes.c_uint32) for name in Zone._fields]
+    _fields_ = [("kind", ctypes.c_uint16), ("byte_order", ctypes.c_uint16)] + [
+        (name, ctypes.c_uint32) for name in Zone._fields[1:-1]]
 
 
 class _LayoutAnswer(ctypes.Structure):
@@ -65,7 +66,7 @@ class _ReportAnswer(ctypes.Structure):
 class _Params(ctypes.Structure):
     _fields_ = [(name, ctypes.c_uint64) for name in (
         "mem", "dump", "console", "ftrace", "pmsg", "ecc", "cpus", "block", "ecc_dump", "ecc_console", "ecc_ftrace",
-        "ecc_pmsg")] + [("ftrace_sig", ctypes.c_uint32), ("order", ctypes.c_uint32)]
+        "ecc_pmsg")] + [("ftrace_sig", ctypes.c_uint32), ("order", ctypes.c_uint16), ("byte_order", ctypes.c_uint16)]
 
 
 class _ZoneAnswer(ctypes.Structure):
@@ -308,9 +309,9 @@ _KEYS = {"mem_size": ("mem", 0), "record_size": ("dump", 4096), "console_size": 
          "ftrace_size": ("ftrace", 4096), "pmsg_size": ("pmsg", 4096), "ecc": ("ecc", 0), "cpus": ("cpus", 1),
          "block_size": ("block", 128), "ecc_dump": ("ecc_dump", None), "ecc_console": ("ecc_console", None),
          "ecc_ftrace": ("ecc_ftrace", None), "ecc_pmsg": ("ecc_pmsg", None), "ftrace_sig": ("ftrace_sig", 0),
-         "order": ("order", 0)}
+         "order": ("order", 0), "byte_order": ("byte_order", 0)}
 # The texts that a key takes in place of a number; the field has the text's place.
-_CHOICES = {"order": ("console,ftrace,pmsg", "console,pmsg,ftrace")}
+_CHOICES = {"order": ("console,ftrace,pmsg", "console,pmsg,ftrace"), "byte_order": ("little", "big")}
 _FTRACE = 2
 _WORD, _PAYLOAD = 0, 2
 _ROWS = 256
@@ -347,7 +348,7 @@ def _zone_by_words(words, kind, index):
     zones, mem = _layout(words)
     for zone in zones:
         if (zone.kind, zone.index) == (kind, index):
-            return _Place(_KINDS.index(kind), *zone[1:]), mem
+            return _Place(_KINDS.index(kind), zone.byte_order, *zone[1:-1]), mem
     raise Error(ARGUMENT, "no zone %s %d" % (kind, index))
 
 
@@ -386,9 +387,9 @@ class Ring:
         """Opens the zone of this kind and number in a file, and makes the file if it is not there.
 
         Parameters are numbers by keyword, as mem_size=65536, ecc=1, or a text of words, as "mem_size=65536 ecc=1"; what
-        is absent is as on the program's command line. `order` is a text in both. A zone that is no log is signed and
-        erased. A log that is there is kept, its damage corrected. A boot of Linux does otherwise: it shows a console or
-        a pmsg log once, in pstore, and erases it. With keep=False the zone is booted like that.
+        is absent is as on the program's command line. `order` and `byte_order` are texts in both. A zone that is no log
+        is signed and erased. A log that is there is kept, its damage corrected. A boot of Linux does otherwise: it shows
+        a console or a pmsg log once, in pstore, and erases it. With keep=False the zone is booted like that.
 
         Raises Error if there is no such zone or no layout.
         """

@@ -3,7 +3,7 @@ _oopsreport()
 {
     local word=${COMP_WORDS[COMP_CWORD]}
     local keys="mem_size= record_size= console_size= ftrace_size= pmsg_size= ecc= cpus= ftrace_sig= block_size=
-        ecc_dump= ecc_console= ecc_ftrace= ecc_pmsg= order="
+        ecc_dump= ecc_console= ecc_ftrace= ecc_pmsg= order= byte_order="
     case ${COMP_WORDS[COMP_CWORD - 1]} in
         --param)
             mapfile -t COMPREPLY < <(compgen -W "$keys" -- "$word")

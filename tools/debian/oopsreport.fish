@@ -1,6 +1,6 @@
 # Completion of oopsreport for fish: its options and what they take, and files.
 set -l keys mem_size= record_size= console_size= ftrace_size= pmsg_size= ecc= cpus= ftrace_sig= block_size= \
-    ecc_dump= ecc_console= ecc_ftrace= ecc_pmsg= order=
+    ecc_dump= ecc_console= ecc_ftrace= ecc_pmsg= order= byte_order=
 
 complete -c oopsreport -l param -x -a "$keys" -d "A parameter of the layout"
 complete -c oopsreport -l cmdline -x -d "A kernel's command line"

@@ -1,7 +1,7 @@
 #compdef oopsreport
 # Completion of oopsreport for zsh: its options and what they take, and files.
 local -a keys=(mem_size= record_size= console_size= ftrace_size= pmsg_size= ecc= cpus= ftrace_sig= block_size=
-    ecc_dump= ecc_console= ecc_ftrace= ecc_pmsg= order=)
+    ecc_dump= ecc_console= ecc_ftrace= ecc_pmsg= order= byte_order=)
 _arguments \
     "*--param[a parameter of the layout]:parameter:compadd -S '' $keys" \
     '--cmdline[a command line of a kernel]:words:' \

@@ -82,7 +82,7 @@ static double median(double *times, int rounds)
 /* A row of the table: 1 if it is below its limit. */
 static int compare(uint32_t size, uint32_t parity, int rounds, long appends)
 {
-	struct oopsbox_params params = {size, 0, size, 0, 0, parity, 1, 128, parity, parity, parity, parity, 0, 0};
+	struct oopsbox_params params = {size, 0, size, 0, 0, parity, 1, 128, parity, parity, parity, parity, 0, 0, 0};
 	double by_us[ROUNDS], by_them[ROUNDS], limit = parity == 0 ? 1 : 5;
 	memset(ours, 0, size);
 	memset(theirs, 0, size);

@@ -38,7 +38,7 @@ static struct zone zone;
 static long write_and_read(uint32_t kind, uint64_t ecc)
 {
 	static const uint8_t line[] = "====5.000006-D\n", text[] = "Panic";
-	struct oopsbox_params params = {8192, 4096, 4096, 0, 0, ecc, 1, 128, ecc, ecc, ecc, ecc, 0, 0};
+	struct oopsbox_params params = {8192, 4096, 4096, 0, 0, ecc, 1, 128, ecc, ecc, ecc, ecc, 0, 0, 0};
 	struct oopsbox_zone_answer answer;
 	struct oopsbox_flight flight;
 	struct oopsbox_stores stores = {0};

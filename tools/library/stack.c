@@ -134,7 +134,7 @@ static uint64_t got;
 
 static void *zone_at(void *unused)
 {
-	struct oopsbox_params params = {1 << 24, 256, 65536, 65536, 65536, 0, 64, 128, 0, 1, 0, 0, 7, 0};
+	struct oopsbox_params params = {1 << 24, 256, 65536, 65536, 65536, 0, 64, 128, 0, 1, 0, 0, 7, 0, 0};
 	struct oopsbox_zone_place place;
 	struct oopsbox_layout_answer laid;
 	check(oopsbox_zone_at(&params, OOPSBOX_FTRACE, 63, &place, &laid) == OOPSBOX_DONE, "zone_at");
@@ -253,7 +253,7 @@ static void note(size_t *most, void *(*work)(void *))
 /* The most bytes that each call on a store in place takes, on zones of this parity. */
 static void note_zone(size_t *most, uint32_t parity, size_t rows)
 {
-	struct oopsbox_params params = {sizeof(room), 0, sizeof(room), 0, 0, 0, 1, 128, 0, parity, 0, 0, 0, 0};
+	struct oopsbox_params params = {sizeof(room), 0, sizeof(room), 0, 0, 0, 1, 128, 0, parity, 0, 0, 0, 0, 0};
 	memset(room, 0, sizeof(room));
 	check(find_zone(&store, &params, OOPSBOX_CONSOLE, 0, room) == OOPSBOX_DONE, "a zone");
 	store.rows = parity == 0 ? 0 : rows;

@@ -18,6 +18,7 @@ use Rattle.zone_examples.proofs.Given.{given_nearest}
 use Rattle.zone_examples.proofs.GivenParts.{given_parts}
 use Rattle.zone_examples.proofs.Clean.{read_as}
 use Rattle.command_examples.specs.Rows.{flipped_dump}
+use Rattle.zone_spec.specs.declared.params.ByteOrder.TheVariants.{Little}
 
 abbrev pub console : ZoneName
 console = record { kind = Console; index = 0 }
@@ -33,6 +34,7 @@ small_console = record {
   parity = 2;
   sig = 0x43474244;
   block = 128;
+  byte_order = Little;
 }
 
 abbrev pub flipped_word : List ℕ

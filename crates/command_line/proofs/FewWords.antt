@@ -54,7 +54,7 @@ passing_at_most : {X : Type 0} (p : X → Bool) (xs : List X) → passing p xs �
 passing_at_most p [] = omega arith
 passing_at_most p (x ∷ xs) = one_at_most (p x) (passing p xs) (length xs) (passing_at_most p xs)
 
-keys_few : (words : List (List ℕ)) → keys_in keys words ≤ 14
+keys_few : (words : List (List ℕ)) → keys_in keys words ≤ 15
 unfolding keys_in
 keys_few words = passing_at_most (λ key. list_any (has_key keys key) words) keys.names
 
@@ -63,7 +63,7 @@ read_none None read p h = refl
 read_none (Some f) read p h = cc
 
 -- words that were read as parameters
-pub few_words : (words : Words) (p : Params) → Ok p ≡ read_of words → length words ≤ 14
+pub few_words : (words : Words) (p : Params) → Ok p ≡ read_of words → length words ≤ 15
 few_words words p read =
     let none = read_none (first_fault keys [] (texts words)) (params_of (texts words)) p read in
     omega (

@@ -195,6 +195,24 @@ fn the_first_console_record_is_listed(rt: HostRuntime) {
     assert!(rt; image.starts_with(b"DBGC\0\0\0\0\0\0\0\0abc\0".as_slice()));
 }
 
+const BIG_CONSOLE: &str =
+    "image run mem_size=4096 record_size=0 ftrace_size=0 pmsg_size=0 byte_order=big";
+
+// As the first console record, on a big-endian machine.
+#[test]
+fn a_big_endian_console_is_listed(rt: HostRuntime) {
+    let image = left_by(
+        &rt,
+        BIG_CONSOLE,
+        FIRST_RECORD.as_bytes(),
+        &[0; 4096],
+        NONE,
+        0,
+        FIRST_TEXT.as_bytes(),
+    );
+    assert!(rt; image.starts_with(b"CGBD\0\0\0\0\0\0\0\0abc\0".as_slice()));
+}
+
 // What a script and its full ring put.
 fn put_by_wrapped(rt: &(impl Abort + AllocGlobal), script: &str, words: &str, last: &str) {
     let log = "a".repeat(rt.alloc(), 4083).expect(rt, "no memory");

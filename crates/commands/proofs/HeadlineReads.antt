@@ -28,7 +28,7 @@ use Rattle.machine_spec.specs.Headline.{EachOffZone}
 use Rattle.machine_laws.specs.ZoneReads.{ReadsZone}
 use Rattle.machine_laws.proofs.ZoneReads.{sound_state_reads_zones}
 use Rattle.grammar_spec.specs.Numbers.{digits_number, number_of, begins}
-use Rattle.grammar_spec.specs.Words.{given, value_text, value_of, ok_unless}
+use Rattle.grammar_spec.specs.Words.{given, text_place, value_text, value_of, ok_unless}
 use Rattle.grammar_spec.specs.ZoneWords.{keys, first_fault, params_of}
 use Rattle.grammar_spec.specs.BlkWords.{first_fault as blk_first_fault, params_of as blk_params_of}
 use Rattle.blk_spec.specs.declared.BlkLayout.{BlkLayout}
@@ -103,16 +103,18 @@ given_small : (words : List Text) (key : Text) → unwrap_or (given keys words k
 unfolding given
 given_small words key = by (value_text keys words key)
   where
-    one : (b : Bool) (text : List ℕ)
-        → unwrap_or (cond b (position (λ (choice : List ℕ). bytes_eq choice text) keys.choices) (number_of text)) 0
+    one : (b d : Bool) (text : List ℕ)
+        → unwrap_or (cond b (text_place keys.first text) (cond d (text_place keys.second text) (number_of text))) 0
         < 2 ^ 32
-    one true text = or_zero (position (λ (choice : List ℕ). bytes_eq choice text) keys.choices)
-        (λ n e. omega (arith, (position-Some (λ (choice : List ℕ). bytes_eq choice text) keys.choices n text e).0))
-    one false text = or_zero (number_of text) (number_small text)
+    one true d text = or_zero (text_place keys.first text)
+        (λ n e. omega (arith, (position-Some (λ (own : List ℕ). bytes_eq own text) keys.first.texts n text e).0))
+    one false true text = or_zero (text_place keys.second text)
+        (λ n e. omega (arith, (position-Some (λ (own : List ℕ). bytes_eq own text) keys.second.texts n text e).0))
+    one false false text = or_zero (number_of text) (number_small text)
 
     by : (o : Option (List ℕ)) → unwrap_or (option_and_then (value_of keys key) o) 0 < 2 ^ 32
     by None = omega arith
-    by (Some text) = one (bytes_eq key keys.choice) text
+    by (Some text) = one (bytes_eq key keys.first.key) (bytes_eq key keys.second.key) text
 
 -- ---- the zones of a plan are a layout
 

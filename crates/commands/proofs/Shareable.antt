@@ -205,7 +205,7 @@ module _ (p : Params) (zones : List Zone) (mem : ℕ) (image : List ℕ) (laid :
         sized = sound.size.0;
         signed = ring.signed;
         ring = ring.ring;
-        is_open = open_unless z.name.kind (standing_words v.image) z.cap is.kind ring.is_open;
+        is_open = open_unless z.name.kind (standing_words z v.image) z.cap is.kind ring.is_open;
       })
 
   pub can_open : CanOpen zones shared_name (stopped zones live).image

@@ -72,7 +72,7 @@ begins_below z b n valid lt = elim valid.block [
 ]
 
 fixes_none : (z : Zone) (now told : List ℕ) → IsValidZone z → IsRingForm z now told
-    → (zone_reading z now).state ≡ Found → (zone_reading z now).words ≡ standing_words now → boot_fixes z now ≡ []
+    → (zone_reading z now).state ≡ Found → (zone_reading z now).words ≡ standing_words z now → boot_fixes z now ≡ []
 unfolding boot_fixes
 fixes_none z now told valid ring state words =
     let reading = zone_reading z now in
@@ -80,9 +80,9 @@ fixes_none z now told valid ring state words =
     (ap (λ (s : State). flat_map (λ (b : ℕ). part_fixes z now (Block b)) (blocks_read z reading s)) state
     ∙ ap (λ (w : Words). flat_map (λ (b : ℕ). part_fixes z now (Block b)) (blocks_below z w.size)) words
     ∙ flat_range (λ (b : ℕ). part_fixes z now (Block b)) 0
-    (((standing_words now).size + z.block - 1) / z.block)
+    (((standing_words z now).size + z.block - 1) / z.block)
     (λ b l. part_none z now (Block b)
-    (ring.blocks b (begins_below z b (standing_words now).size valid l))))
+    (ring.blocks b (begins_below z b (standing_words z now).size valid l))))
 
 erasure_none : (z : Zone) (now : List ℕ) → keeps z (zone_reading z now) ≡ true → boot_erasure z now ≡ []
 unfolding boot_erasure
@@ -90,7 +90,7 @@ erasure_none z now kept =
     ap (λ (b : Bool). cond b [] (signing z (zone_reading z now).state ++ erase_stages)) kept
 
 pub stores_none : (z : Zone) (now told : List ℕ) → IsValidZone z → IsRingForm z now told
-    → (zone_reading z now).state ≡ Found → (zone_reading z now).words ≡ standing_words now
+    → (zone_reading z now).state ≡ Found → (zone_reading z now).words ≡ standing_words z now
     → keeps z (zone_reading z now) ≡ true → (boot_stores z now ≡ []) × (boot_fixes z now ≡ [])
 unfolding boot_stores stores_in_turn
 stores_none z now told valid ring state words kept =

@@ -3,7 +3,6 @@ use Rattle.std.proofs.Common.{◌≡◌, ◌≢◌, ℕ, zero, suc, ◌-◌, ◌
 use Rattle.std.proofs.Common.{List, [], ◌∷◌, ◌++◌, length, take, map, flat_map, get_or, refl, sym, ap, ap₂, ◌∙◌, subst}
 use Rattle.std.proofs.Common.{arith, Option, Some, None, w32, append-nil, eqb-true}
 use Rattle.std.specs.Prelude.{Contains}
-use Rattle.std.specs.Int.{to_le_bytes}
 use Rattle.std.specs.List.{AllByRecursion, range_with_len, position}
 use Rattle.std.proofs.lemmas.List.Quantifiers.{position-Some}
 use Rattle.std.proofs.lemmas.Bool.{and_parts}
@@ -41,6 +40,7 @@ use Rattle.damage_laws.proofs.UntouchedBlocks.{LeavesBlock, stages_leave, prefix
 use Rattle.damage_laws.proofs.TouchedBlocks.{parity_length}
 use Rattle.damage_laws.proofs.CutHeader.{IsSmall, IsUnsigning, IsHeader, words_track, pairs_have, sig_kept, sig_put}
 use Rattle.damage_laws.proofs.CutHeader.{is_header, header_reads}
+use Rattle.zone_spec.specs.WordBytes.{word_bytes}
 
 -- the words that a seen pair says
 seen_pair : (z : Zone) (v : Words) (ps : List Pair) (j : ℕ) (d : Pair) → header_seen z v ps ≡ SeenPair j
@@ -89,10 +89,10 @@ module _ (z : Zone) (valid : IsValidZone z) (now : List ℕ) (im : IsImage z now
   unfolding booted_bytes
   x_image = booted_image z valid now im
 
-  x_words : standing_words x ≡ words_read z now
+  x_words : standing_words z x ≡ words_read z now
   x_words = corrected_words z now valid im
 
-  x_header : IsHeader z.parity (part_word z x Header)
+  x_header : IsHeader z.byte_order z.parity (part_word z x Header)
   unfolding booted_bytes
   x_header = is_header z (booted_bytes z valid now im) valid (booted_image z valid now im)
       (read_stands z valid now im Header tt)
@@ -125,23 +125,23 @@ module _ (z : Zone) (valid : IsValidZone z) (now : List ℕ) (im : IsImage z now
   signed-small Invalid = (omega arith, (omega arith, (tt, tt)))
   signed-small Found = (omega arith, (omega arith, (tt, tt)))
 
-  erase_sig : (y : List ℕ) (m : ℕ) → IsImage z y → (standing_words y).sig ≡ z.sig
-      → (standing_words (after_stores y (take m (stores_in_turn z erase_stages y)))).sig ≡ z.sig
+  erase_sig : (y : List ℕ) (m : ℕ) → IsImage z y → (standing_words z y).sig ≡ z.sig
+      → (standing_words z (after_stores y (take m (stores_in_turn z erase_stages y)))).sig ≡ z.sig
   erase_sig y m hy e =
       let t = words_track z erase_stages y m (omega (arith, hy.0, valid.at_least))
       (omega arith, (omega arith, (tt, tt))) in
-      ap (λ w. w.sig) t.3 ∙ sig_kept (standing_words y) t.0 t.1
+      ap (λ w. w.sig) t.3 ∙ sig_kept (standing_words z y) t.0 t.1
       (subst (AllByRecursion IsUnsigning) t.2 (tt, (tt, (tt, tt)))) ∙ e
 
   sig_by : (s : State) → Says z (words_read z now) s → (m : ℕ) → 0 < m
-      → (standing_words (after_stores x (take m (stores_in_turn z (signing z s ++ erase_stages) x)))).sig ≡ z.sig
+      → (standing_words z (after_stores x (take m (stores_in_turn z (signing z s ++ erase_stages) x)))).sig ≡ z.sig
   unfolding stores_in_turn stage_stores after_stores
   sig_by Unsigned h zero l = absurd (omega arith)
   sig_by Unsigned h (suc m) l =
-      erase_sig (put x 0 (to_le_bytes w32 z.sig)) m (
-        length-put x 0 (to_le_bytes w32 z.sig)
+      erase_sig (put x 0 (word_bytes z.byte_order z.sig)) m (
+        length-put x 0 (word_bytes z.byte_order z.sig)
             ∙ x_image.0,
-        put-bytes x 0 (to_le_bytes w32 z.sig) x_image.1 (word-bytes z.sig),
+        put-bytes x 0 (word_bytes z.byte_order z.sig) x_image.1 (word-bytes z.byte_order z.sig),
       )
       (ap (λ w. w.sig) (sig_put z x z.sig (omega (arith, x_image.0, valid.at_least)) valid.word))
   sig_by Empty h m l = erase_sig x m x_image (ap (λ w. w.sig) x_words ∙ h.0)
@@ -158,17 +158,17 @@ module _ (z : Zone) (valid : IsValidZone z) (now : List ℕ) (im : IsImage z now
       ∙ ap (λ parts. pairs_from (pair_of (words_read z now)) (flat_map (λ part. part) parts)) parts_are
       ∙ ap (pairs_from (pair_of (words_read z now))) (append-nil (boot_erasure z now) ∙ erases)
 
-  stood : ((standing_words stop).sig ≡ z.sig) × Contains (cut_pairs z (boot_cut z now k))
-      (pair_of (standing_words stop))
+  stood : ((standing_words z stop).sig ≡ z.sig) × Contains (cut_pairs z (boot_cut z now k))
+      (pair_of (standing_words z stop))
   stood =
       let gs : List Stage = signing z reading.state ++ erase_stages in
       let at : stop ≡ after_stores x (take made (stores_in_turn z gs x)) =
       stop_is ∙ ap (λ es. after_stores x (take made (stores_in_turn z es x))) erases in
       let t = words_track z gs x made (omega (arith, x_image.0, valid.at_least)) (signed-small reading.state) in
-      let is : standing_words stop ≡ words_after (words_read z now) t.0 =
-      ap standing_words at ∙ t.3 ∙ ap (λ w. words_after w t.0) x_words in (
-        ap (λ y. (standing_words y).sig) at ∙ sig_by reading.state says made (omega (arith, after)),
-        subst (λ ps. Contains ps (pair_of (standing_words stop))) (sym pairs_are)
+      let is : standing_words z stop ≡ words_after (words_read z now) t.0 =
+      ap (standing_words z) at ∙ t.3 ∙ ap (λ w. words_after w t.0) x_words in (
+        ap (λ y. (standing_words z y).sig) at ∙ sig_by reading.state says made (omega (arith, after)),
+        subst (λ ps. Contains ps (pair_of (standing_words z stop))) (sym pairs_are)
             (subst (λ v. Contains (pairs_from (pair_of (words_read z now)) gs) (pair_of v)) (sym is)
             (subst (λ hs. Contains (pairs_from (pair_of (words_read z now)) hs)
             (pair_of (words_after (words_read z now) t.0))) (sym t.2) (pairs_have (words_read z now) t.0 t.1))),

@@ -4,8 +4,6 @@ use Rattle.std.proofs.Common.{nat_le, List, [], ◌∷◌, ◌++◌, length, tak
 use Rattle.std.proofs.Common.{ap, ◌∙◌, subst, arith, inl, inr, Option, Some, None, w32, length-append, mod-lt, take_all}
 use Rattle.std.proofs.Common.{le-leb}
 use Rattle.std.specs.Prelude.{Contains, sum_by, MatchOption}
-use Rattle.std.specs.Int.{from_le_bytes, to_le_bytes}
-use Rattle.std.proofs.lemmas.Nat.{from_le_bytes-to_le_bytes_4}
 use Rattle.std.proofs.lemmas.Bool.{cases_lt}
 use Rattle.std.proofs.lemmas.Bool.Decides.{nat_tests}
 use Rattle.std.proofs.lemmas.List.Sums.{sum_by-append}
@@ -13,6 +11,7 @@ use Rattle.std.specs.List.{AllByRecursion}
 use Rattle.std.proofs.lemmas.List.{take-append-le}
 use Rattle.list_laws.proofs.Elements.{AllByRecursion-append, take-append_past}
 use Rattle.zone_spec.specs.declared.Zone.{Zone}
+use Rattle.zone_spec.specs.declared.params.ByteOrder.{ByteOrder}
 use Rattle.zone_spec.specs.declared.Words.{Words}
 use Rattle.zone_spec.specs.declared.Pair.{Pair}
 use Rattle.zone_spec.specs.Zones.{IsValidZone}
@@ -36,6 +35,7 @@ use Rattle.machine_spec.specs.Sound.{IsInFlight}
 use Rattle.damage_laws.specs.CutCalls.{IsNearHeader, HeaderReads, CutZoneReads}
 use Rattle.code_laws.proofs.Nearest.{nearest-IsNear}
 use Rattle.code_laws.proofs.Laws.{parity_made}
+use Rattle.word_laws.proofs.WordBytes.{word_of-word_bytes, word_of-small}
 use Rattle.ring_laws.proofs.Images.{put-below, put-above, put-inside, after_stores-append, length-after_stores}
 use Rattle.ring_laws.proofs.AppendLaw.{word_of-stored, word_of-same}
 use Rattle.ring_laws.proofs.PartsLaw.{nearest-codeword, slice_range-bytes}
@@ -47,6 +47,7 @@ use Rattle.ring_laws.proofs.HeaderWords.{words_eq, header_length, header_words, 
 use Rattle.damage_laws.proofs.Within.{near_is}
 use Rattle.damage_laws.proofs.CutPlaces.{old_places, no_other_places}
 use Rattle.damage_laws.proofs.CutNumbers.{length-call}
+use Rattle.zone_spec.specs.WordBytes.{word_bytes, word_of}
 
 -- ---- the words while stores are made
 
@@ -75,17 +76,17 @@ behind place [] (suc k) x h i l = refl
 behind place (b ∷ bs) (suc k) x h i l = behind (place + 1) bs k (put x place (b ∷ [])) (omega arith) i l
     ∙ put-below x place i (b ∷ []) (omega arith)
 
-behind-words : (place : ℕ) (bs : List ℕ) (k : ℕ) (x : List ℕ) → 12 ≤ place
-    → standing_words (after_stores x (take k (byte_stores place bs))) ≡ standing_words x
-behind-words place bs k x h = standing_same (after_stores x (take k (byte_stores place bs))) x
+behind-words : (z : Zone) (place : ℕ) (bs : List ℕ) (k : ℕ) (x : List ℕ) → 12 ≤ place
+    → standing_words z (after_stores x (take k (byte_stores place bs))) ≡ standing_words z x
+behind-words z place bs k x h = standing_same z (after_stores x (take k (byte_stores place bs))) x
     (λ i l. behind place bs k x h i l)
 
-behind-all : (place : ℕ) (bs : List ℕ) (x : List ℕ) → 12 ≤ place
-    → standing_words (after_stores x (byte_stores place bs)) ≡ standing_words x
-behind-all place bs x h =
-    ap (λ ss. standing_words (after_stores x ss)) (sym (take_all (length (byte_stores place bs))
+behind-all : (z : Zone) (place : ℕ) (bs : List ℕ) (x : List ℕ) → 12 ≤ place
+    → standing_words z (after_stores x (byte_stores place bs)) ≡ standing_words z x
+behind-all z place bs x h =
+    ap (λ ss. standing_words z (after_stores x ss)) (sym (take_all (length (byte_stores place bs))
     (byte_stores place bs) (omega arith)))
-    ∙ behind-words place bs (length (byte_stores place bs)) x h
+    ∙ behind-words z place bs (length (byte_stores place bs)) x h
 
 behind_parity : (z : Zone) (part : Part) → 12 ≤ part_parity_at z part
 behind_parity z Header = omega arith
@@ -93,60 +94,60 @@ behind_parity z (Block b) = omega arith
 
 module _ (z : Zone) where
   pub sig_put : (x : List ℕ) (n : ℕ) → 12 ≤ length x → n < 2 ^ 32
-      → standing_words (put x 0 (to_le_bytes w32 n)) ≡ record {
+      → standing_words z (put x 0 (word_bytes z.byte_order n)) ≡ record {
         sig = n;
-        start = (standing_words x).start;
-        size = (standing_words x).size;
+        start = (standing_words z x).start;
+        size = (standing_words z x).size;
       }
-  sig_put x n h l = words_eq (standing_words (put x 0 (to_le_bytes w32 n)))
-      (record { sig = n; start = (standing_words x).start; size = (standing_words x).size })
-      (word_of-stored (put x 0 (to_le_bytes w32 n)) 0 n (omega arith) l
-      (λ i k. put-inside x 0 i (to_le_bytes w32 n) (omega arith) k))
-      (word_of-same (put x 0 (to_le_bytes w32 n)) x 4 (omega arith)
-      (λ i k. put-above x 0 (4 + i) (to_le_bytes w32 n) (omega arith)))
-      (word_of-same (put x 0 (to_le_bytes w32 n)) x 8 (omega arith)
-      (λ i k. put-above x 0 (8 + i) (to_le_bytes w32 n) (omega arith)))
+  sig_put x n h l = words_eq (standing_words z (put x 0 (word_bytes z.byte_order n)))
+      (record { sig = n; start = (standing_words z x).start; size = (standing_words z x).size })
+      (word_of-stored z.byte_order (put x 0 (word_bytes z.byte_order n)) 0 n (omega arith) l
+      (λ i k. put-inside x 0 i (word_bytes z.byte_order n) (omega arith) k))
+      (word_of-same z.byte_order (put x 0 (word_bytes z.byte_order n)) x 4 (omega arith)
+      (λ i k. put-above x 0 (4 + i) (word_bytes z.byte_order n) (omega arith)))
+      (word_of-same z.byte_order (put x 0 (word_bytes z.byte_order n)) x 8 (omega arith)
+      (λ i k. put-above x 0 (8 + i) (word_bytes z.byte_order n) (omega arith)))
 
   start_put : (x : List ℕ) (n : ℕ) → 12 ≤ length x → n < 2 ^ 32
-      → standing_words (put x 4 (to_le_bytes w32 n)) ≡ record {
-        sig = (standing_words x).sig;
+      → standing_words z (put x 4 (word_bytes z.byte_order n)) ≡ record {
+        sig = (standing_words z x).sig;
         start = n;
-        size = (standing_words x).size;
+        size = (standing_words z x).size;
       }
-  start_put x n h l = words_eq (standing_words (put x 4 (to_le_bytes w32 n)))
-      (record { sig = (standing_words x).sig; start = n; size = (standing_words x).size })
-      (word_of-same (put x 4 (to_le_bytes w32 n)) x 0 (omega arith)
-      (λ i k. put-below x 4 (0 + i) (to_le_bytes w32 n) (omega arith)))
-      (word_of-stored (put x 4 (to_le_bytes w32 n)) 4 n (omega arith) l
-      (λ i k. put-inside x 4 i (to_le_bytes w32 n) (omega arith) k))
-      (word_of-same (put x 4 (to_le_bytes w32 n)) x 8 (omega arith)
-      (λ i k. put-above x 4 (8 + i) (to_le_bytes w32 n) (omega arith)))
+  start_put x n h l = words_eq (standing_words z (put x 4 (word_bytes z.byte_order n)))
+      (record { sig = (standing_words z x).sig; start = n; size = (standing_words z x).size })
+      (word_of-same z.byte_order (put x 4 (word_bytes z.byte_order n)) x 0 (omega arith)
+      (λ i k. put-below x 4 (0 + i) (word_bytes z.byte_order n) (omega arith)))
+      (word_of-stored z.byte_order (put x 4 (word_bytes z.byte_order n)) 4 n (omega arith) l
+      (λ i k. put-inside x 4 i (word_bytes z.byte_order n) (omega arith) k))
+      (word_of-same z.byte_order (put x 4 (word_bytes z.byte_order n)) x 8 (omega arith)
+      (λ i k. put-above x 4 (8 + i) (word_bytes z.byte_order n) (omega arith)))
 
   size_put : (x : List ℕ) (n : ℕ) → 12 ≤ length x → n < 2 ^ 32
-      → standing_words (put x 8 (to_le_bytes w32 n)) ≡ record
-      { sig = (standing_words x).sig; start = (standing_words x).start; size = n }
-  size_put x n h l = words_eq (standing_words (put x 8 (to_le_bytes w32 n)))
-      (record { sig = (standing_words x).sig; start = (standing_words x).start; size = n })
-      (word_of-same (put x 8 (to_le_bytes w32 n)) x 0 (omega arith)
-      (λ i k. put-below x 8 (0 + i) (to_le_bytes w32 n) (omega arith)))
-      (word_of-same (put x 8 (to_le_bytes w32 n)) x 4 (omega arith)
-      (λ i k. put-below x 8 (4 + i) (to_le_bytes w32 n) (omega arith)))
-      (word_of-stored (put x 8 (to_le_bytes w32 n)) 8 n (omega arith) l
-      (λ i k. put-inside x 8 i (to_le_bytes w32 n) (omega arith) k))
+      → standing_words z (put x 8 (word_bytes z.byte_order n)) ≡ record
+      { sig = (standing_words z x).sig; start = (standing_words z x).start; size = n }
+  size_put x n h l = words_eq (standing_words z (put x 8 (word_bytes z.byte_order n)))
+      (record { sig = (standing_words z x).sig; start = (standing_words z x).start; size = n })
+      (word_of-same z.byte_order (put x 8 (word_bytes z.byte_order n)) x 0 (omega arith)
+      (λ i k. put-below x 8 (0 + i) (word_bytes z.byte_order n) (omega arith)))
+      (word_of-same z.byte_order (put x 8 (word_bytes z.byte_order n)) x 4 (omega arith)
+      (λ i k. put-below x 8 (4 + i) (word_bytes z.byte_order n) (omega arith)))
+      (word_of-stored z.byte_order (put x 8 (word_bytes z.byte_order n)) 8 n (omega arith) l
+      (λ i k. put-inside x 8 i (word_bytes z.byte_order n) (omega arith) k))
 
   -- a stage's stores, all or some of them
   stage_words : (g : Stage) (x : List ℕ) → 12 ≤ length x → IsSmall g
-      → standing_words (after_stores x (stage_stores z g x)) ≡ words_after (standing_words x) (g ∷ [])
+      → standing_words z (after_stores x (stage_stores z g x)) ≡ words_after (standing_words z x) (g ∷ [])
   unfolding stage_stores after_stores words_after
   stage_words (SigWord n) x h l = sig_put x n h l
   stage_words (StartWord n) x h l = start_put x n h l
   stage_words (SizeWord n) x h l = size_put x n h l
-  stage_words (Run place bytes) x h l = behind-all (12 + place) bytes x (omega arith)
-  stage_words (ParityOf part) x h l = behind-all (part_parity_at z part) (parity_of z.parity (part_bytes z x part)) x
+  stage_words (Run place bytes) x h l = behind-all z (12 + place) bytes x (omega arith)
+  stage_words (ParityOf part) x h l = behind-all z (part_parity_at z part) (parity_of z.parity (part_bytes z x part)) x
       (behind_parity z part)
 
   stage_part : (g : Stage) (x : List ℕ) (k : ℕ) → k < length (stage_stores z g x)
-      → standing_words (after_stores x (take k (stage_stores z g x))) ≡ standing_words x
+      → standing_words z (after_stores x (take k (stage_stores z g x))) ≡ standing_words z x
   unfolding stage_stores after_stores
   stage_part (SigWord n) x zero l = refl
   stage_part (SigWord n) x (suc k) l = absurd (omega arith)
@@ -154,8 +155,8 @@ module _ (z : Zone) where
   stage_part (StartWord n) x (suc k) l = absurd (omega arith)
   stage_part (SizeWord n) x zero l = refl
   stage_part (SizeWord n) x (suc k) l = absurd (omega arith)
-  stage_part (Run place bytes) x k l = behind-words (12 + place) bytes k x (omega arith)
-  stage_part (ParityOf part) x k l = behind-words (part_parity_at z part) (parity_of z.parity (part_bytes z x part))
+  stage_part (Run place bytes) x k l = behind-words z (12 + place) bytes k x (omega arith)
+  stage_part (ParityOf part) x k l = behind-words z (part_parity_at z part) (parity_of z.parity (part_bytes z x part))
       k x (behind_parity z part)
 
   words_after-cons : (w : Words) (g : Stage) (hs : List Stage)
@@ -170,7 +171,7 @@ module _ (z : Zone) where
   -- the words after some stores are those after some stages
   pub words_track : (gs : List Stage) (x : List ℕ) (k : ℕ) → 12 ≤ length x → AllByRecursion IsSmall gs
       → (hs : List Stage) × (ts : List Stage) × (gs ≡ hs ++ ts)
-      × (standing_words (after_stores x (take k (stores_in_turn z gs x))) ≡ words_after (standing_words x) hs)
+      × (standing_words z (after_stores x (take k (stores_in_turn z gs x))) ≡ words_after (standing_words z x) hs)
   unfolding stores_in_turn after_stores words_after
   words_track [] x zero h small = ([], [], refl, refl)
   words_track [] x (suc k) h small = ([], [], refl, refl)
@@ -183,7 +184,7 @@ module _ (z : Zone) where
           [],
           g ∷ gs,
           refl,
-          ap (λ ts. standing_words (after_stores x ts)) (take-append-le k ss rest (omega arith))
+          ap (λ ts. standing_words z (after_stores x ts)) (take-append-le k ss rest (omega arith))
               ∙ stage_part g x k l,
         )
         | inr m ↦
@@ -191,10 +192,10 @@ module _ (z : Zone) where
               g ∷ t.0,
               t.1,
               ap (λ us. g ∷ us) t.2,
-              ap (λ us. standing_words (after_stores x us)) (take-append_past k ss rest m)
-                  ∙ ap standing_words (after_stores-append x ss (take (k - length ss) rest))
+              ap (λ us. standing_words z (after_stores x us)) (take-append_past k ss rest m)
+                  ∙ ap (standing_words z) (after_stores-append x ss (take (k - length ss) rest))
                   ∙ t.3 ∙ ap (λ w. words_after w t.0) (stage_words g x h small.0)
-                  ∙ words_after-cons (standing_words x) g t.0,
+                  ∙ words_after-cons (standing_words z x) g t.0,
             ))
       ]
 
@@ -304,40 +305,36 @@ pub each-small : (parts : List (List Stage)) → AllByRecursion (λ gs. AllByRec
 each-small [] h = tt
 each-small (p ∷ ps) h = ((both-small p h.0).0, each-small ps h.1)
 
--- four bytes make a number that fits them
-four-bytes : (xs : List ℕ) → AreBytes xs → from_le_bytes w32 xs < 2 ^ 32
-four-bytes xs h = let a = h 0 in let b = h 1 in let c = h 2 in let d = h 3 in omega (arith, a, b, c, d)
-
 -- ---- windows
 
 -- a header's word: what it stands for has its words
-pub record IsHeader (r : ℕ) (header : List ℕ) : Type 0 where
+pub record IsHeader (order : ByteOrder) (r : ℕ) (header : List ℕ) : Type 0 where
   pub word : IsWord (12 + r) header
-  pub stands : (c : List ℕ) → nearest r header ≡ Some c → words_in c ≡ words_in header
-  pub sig : (words_in header).sig < 2 ^ 32
-  pub start : (words_in header).start < 2 ^ 32
-  pub size : (words_in header).size < 2 ^ 32
+  pub stands : (c : List ℕ) → nearest r header ≡ Some c → words_in order c ≡ words_in order header
+  pub sig : (words_in order header).sig < 2 ^ 32
+  pub start : (words_in order header).start < 2 ^ 32
+  pub size : (words_in order header).size < 2 ^ 32
 
 -- a codeword of these words
-pub record SaysWords (r : ℕ) (w : Words) (c : List ℕ) : Type 0 where
+pub record SaysWords (order : ByteOrder) (r : ℕ) (w : Words) (c : List ℕ) : Type 0 where
   pub word : IsWord (12 + r) c
   pub codeword : IsCodeword r c
-  pub words : words_in c ≡ w
+  pub words : words_in order c ≡ w
 
-pub record IsWindow (r : ℕ) (w : Window) : Type 0 where
-  pub opening : (c : List ℕ) → w.opening_codeword ≡ Some c → SaysWords r w.opening c
-  pub closing : SaysWords r w.closing w.closing_codeword
+pub record IsWindow (order : ByteOrder) (r : ℕ) (w : Window) : Type 0 where
+  pub opening : (c : List ℕ) → w.opening_codeword ≡ Some c → SaysWords order r w.opening c
+  pub closing : SaysWords order r w.closing w.closing_codeword
 
-header_codeword-says : (r : ℕ) (w : Words) → w.sig < 2 ^ 32 → w.start < 2 ^ 32 → w.size < 2 ^ 32
-    → SaysWords r w (header_codeword r w)
-header_codeword-says r w a b c =
-    let bytes : List ℕ = to_le_bytes w32 w.sig ++ to_le_bytes w32 w.start ++ to_le_bytes w32 w.size in
-    let a4 : List ℕ = to_le_bytes w32 w.sig in
-    let b4 : List ℕ = to_le_bytes w32 w.start in
-    let c4 : List ℕ = to_le_bytes w32 w.size in
+header_codeword-says : (order : ByteOrder) (r : ℕ) (w : Words) → w.sig < 2 ^ 32 → w.start < 2 ^ 32 → w.size < 2 ^ 32
+    → SaysWords order r w (header_codeword order r w)
+header_codeword-says order r w a b c =
+    let bytes : List ℕ = word_bytes order w.sig ++ word_bytes order w.start ++ word_bytes order w.size in
+    let a4 : List ℕ = word_bytes order w.sig in
+    let b4 : List ℕ = word_bytes order w.start in
+    let c4 : List ℕ = word_bytes order w.size in
     let all : AllByRecursion (λ b. b < 256) bytes = AllByRecursion-append (λ b. b < 256) (a4 ++ b4) c4
-    (AllByRecursion-append (λ b. b < 256) a4 b4 (bytes-all a4 (word-bytes w.sig)) (bytes-all b4 (word-bytes w.start)))
-    (bytes-all c4 (word-bytes w.size)) in
+    (AllByRecursion-append (λ b. b < 256) a4 b4 (bytes-all a4 (word-bytes order w.sig)) (bytes-all b4 (word-bytes order w.start)))
+    (bytes-all c4 (word-bytes order w.size)) in
     let made : IsWord r (parity_of r bytes) × IsCodeword r (bytes ++ parity_of r bytes) =
     parity_made r bytes (refl, all) in
     record {
@@ -346,8 +343,8 @@ header_codeword-says r w a b c =
         AllByRecursion-append (λ b. b < 256) bytes (parity_of r bytes) all made.0.1,
       );
       codeword = made.1;
-      words = words_eq (words_in (header_codeword r w)) w (from_le_bytes-to_le_bytes_4 w.sig a)
-          (from_le_bytes-to_le_bytes_4 w.start b) (from_le_bytes-to_le_bytes_4 w.size c);
+      words = words_eq (words_in order (header_codeword order r w)) w (word_of-word_bytes order w.sig a)
+          (word_of-word_bytes order w.start b) (word_of-word_bytes order w.size c);
     }
 
 after-small : (gs : List Stage) (w : Words) → AllByRecursion IsSmall gs → w.sig < 2 ^ 32 → w.start < 2 ^ 32
@@ -361,19 +358,19 @@ after-small (SizeWord n ∷ gs) w h a b c = after-small gs (record w { size = n 
 after-small (Run place bytes ∷ gs) w h a b c = after-small gs w h.1 a b c
 after-small (ParityOf part ∷ gs) w h a b c = after-small gs w h.1 a b c
 
-pub windows_ok : (z : Zone) (parts : List (List Stage)) (header : List ℕ) → IsHeader z.parity header
+pub windows_ok : (z : Zone) (parts : List (List Stage)) (header : List ℕ) → IsHeader z.byte_order z.parity header
     → AllByRecursion (λ gs. AllByRecursion IsSmall gs) parts
-    → AllByRecursion (IsWindow z.parity) (windows_from z header parts)
+    → AllByRecursion (IsWindow z.byte_order z.parity) (windows_from z header parts)
 unfolding windows_from
 windows_ok z [] header h small = tt
 windows_ok z ([] ∷ parts) header h small = windows_ok z parts header h small.1
 windows_ok z ((g ∷ gs) ∷ parts) header h small =
-    let w : Words = words_after (words_in header) (g ∷ gs) in
-    let bounds = after-small (g ∷ gs) (words_in header) small.0 h.sig h.start h.size in
-    let closing : SaysWords z.parity w (header_codeword z.parity w) =
-    header_codeword-says z.parity w bounds.0 bounds.1 bounds.2 in
-    let own : nearest z.parity (header_codeword z.parity w) ≡ Some (header_codeword z.parity w) =
-    nearest-codeword z.parity (header_codeword z.parity w) closing.codeword in (
+    let w : Words = words_after (words_in z.byte_order header) (g ∷ gs) in
+    let bounds = after-small (g ∷ gs) (words_in z.byte_order header) small.0 h.sig h.start h.size in
+    let closing : SaysWords z.byte_order z.parity w (header_codeword z.byte_order z.parity w) =
+    header_codeword-says z.byte_order z.parity w bounds.0 bounds.1 bounds.2 in
+    let own : nearest z.parity (header_codeword z.byte_order z.parity w) ≡ Some (header_codeword z.byte_order z.parity w) =
+    nearest-codeword z.parity (header_codeword z.byte_order z.parity w) closing.codeword in (
       record {
         opening = λ c e.
             let near : IsNear z.parity header c = nearest-IsNear z.parity header c
@@ -385,10 +382,10 @@ windows_ok z ((g ∷ gs) ∷ parts) header h small =
             };
         closing = closing;
       },
-      windows_ok z parts (header_codeword z.parity w) (record {
+      windows_ok z parts (header_codeword z.byte_order z.parity w) (record {
         word = closing.word;
-        stands = λ c e. (let same : header_codeword z.parity w
-            ≡ c = (let k : Some (header_codeword z.parity w) ≡ Some c = sym own ∙ e in cc) in ap words_in (sym same));
+        stands = λ c e. (let same : header_codeword z.byte_order z.parity w
+            ≡ c = (let k : Some (header_codeword z.byte_order z.parity w) ≡ Some c = sym own ∙ e in cc) in ap (words_in z.byte_order) (sym same));
         sig = subst (λ v. v.sig < 2 ^ 32) (sym closing.words) bounds.0;
         start = subst (λ v. v.start < 2 ^ 32) (sym closing.words) bounds.1;
         size = subst (λ v. v.size < 2 ^ 32) (sym closing.words) bounds.2;
@@ -437,12 +434,12 @@ window_exists (w ∷ ws) made h = window_found ws w made (omega arith)
 -- ---- what the header reads
 
 pub near_words : (z : Zone) (now : List ℕ) (w : Words) (c : List ℕ) → IsValidZone z → IsImage z now
-    → SaysWords z.parity w c → IsNearHeader z now c → words_read z now ≡ w
+    → SaysWords z.byte_order z.parity w c → IsNearHeader z now c → words_read z now ≡ w
 near_words z now w c valid im says near =
     let l = header_length z now valid im in
-    ap words_in (reading_near z now Header c (near_is z now Header c valid im.1
+    ap (words_in z.byte_order) (reading_near z now Header c (near_is z now Header c valid im.1
     (record { codeword = says.codeword; within = near; word = subst (λ n. IsWord n c) (sym l.1) says.word })))
-    ∙ words_taken c (length (part_bytes z now Header)) l.0 ∙ says.words
+    ∙ words_taken z.byte_order c (length (part_bytes z now Header)) l.0 ∙ says.words
 
 pub header_toward : (z : Zone) (stop now : List ℕ) → IsValidZone z → IsImage z stop → IsImage z now
     → IsNotDamagedFurther z stop now → IsMended z stop now Header
@@ -452,30 +449,30 @@ header_toward z stop now valid hs hn h =
 
 -- of any cut whose header is one, and whose stages store words that fit
 pub header_reads : (z : Zone) (cut : Cut) (stop now : List ℕ) → IsValidZone z → IsImage z stop → IsImage z now
-    → IsHeader z.parity cut.header → AllByRecursion (λ gs. AllByRecursion IsSmall gs) (cut_parts z cut)
-    → ((standing_words stop).sig ≡ z.sig) × Contains (cut_pairs z cut) (pair_of (standing_words stop))
+    → IsHeader z.byte_order z.parity cut.header → AllByRecursion (λ gs. AllByRecursion IsSmall gs) (cut_parts z cut)
+    → ((standing_words z stop).sig ≡ z.sig) × Contains (cut_pairs z cut) (pair_of (standing_words z stop))
     → IsNotDamagedFurther z stop now → HeaderReads z cut stop now
 unfolding part_bytes
 header_reads z cut stop now valid hs hn head small stood damage =
-    let windows : AllByRecursion (IsWindow z.parity) (windows_from z cut.header (cut_parts z cut)) =
+    let windows : AllByRecursion (IsWindow z.byte_order z.parity) (windows_from z cut.header (cut_parts z cut)) =
     windows_ok z (cut_parts z cut) cut.header head small in
     let mended : IsMended z stop now Header = header_toward z stop now valid hs hn damage in
     record {
       stood = stood;
-      as_at_stop = ap words_in mended.reading;
+      as_at_stop = ap (words_in z.byte_order) mended.reading;
       opening = λ w c e f near. near_words z now w.opening c valid hn
-          ((window_in (IsWindow z.parity) _ cut.made w windows e).opening c f) near;
+          ((window_in (IsWindow z.byte_order z.parity) _ cut.made w windows e).opening c f) near;
       closing = λ w e near. near_words z now w.closing w.closing_codeword valid hn
-          (window_in (IsWindow z.parity) _ cut.made w windows e).closing near;
+          (window_in (IsWindow z.byte_order z.parity) _ cut.made w windows e).closing near;
       other = by mended (nearest z.parity (part_word z now Header)) refl;
     }
   where
     by : IsMended z stop now Header → (o : Option (List ℕ)) → nearest z.parity (part_word z now Header) ≡ o
-        → MatchOption o (words_read z now ≡ standing_words stop)
-        (λ c. IsNearHeader z now c × (words_read z now ≡ words_in c))
+        → MatchOption o (words_read z now ≡ standing_words z stop)
+        (λ c. IsNearHeader z now c × (words_read z now ≡ words_in z.byte_order c))
     by mended None e =
-        ap words_in (reading_none z now Header e)
-        ∙ standing_same now stop (λ i l. sym (head_byte now hn i l)
+        ap (words_in z.byte_order) (reading_none z now Header e)
+        ∙ standing_same z now stop (λ i l. sym (head_byte now hn i l)
         ∙ ap (λ xs. get_or xs i 0) (mended.stands.none (sym mended.stands.same ∙ e)) ∙ head_byte stop hs i l)
       where
         head_byte : (x : List ℕ) → IsImage z x → (i : ℕ) → i < 12 → get_or (part_word z x Header) i 0 ≡ get_or x i 0
@@ -485,33 +482,33 @@ header_reads z cut stop now valid hs hn head small stood damage =
         let near : IsNear z.parity (part_word z now Header) c =
         nearest-IsNear z.parity (part_word z now Header) c (part_word-IsWord z now Header hn.1) e in (
           near.within,
-          ap words_in (reading_near z now Header c e)
-              ∙ words_taken c (length (part_bytes z now Header)) (header_length z now valid hn).0,
+          ap (words_in z.byte_order) (reading_near z now Header c e)
+              ∙ words_taken z.byte_order c (length (part_bytes z now Header)) (header_length z now valid hn).0,
         )
 
 -- ---- a call's cut
 
 -- a header that stands for its own words
 pub is_header : (z : Zone) (x : List ℕ) → IsValidZone z → IsImage z x → ReadsAsStands z x Header
-    → IsHeader z.parity (part_word z x Header)
+    → IsHeader z.byte_order z.parity (part_word z x Header)
 unfolding part_bytes
 is_header z x valid im stands =
     let l = header_length z x valid im in
-    let words : words_in (part_word z x Header) ≡ standing_words x = header_words z x valid im in
+    let words : words_in z.byte_order (part_word z x Header) ≡ standing_words z x = header_words z x valid im in
     let bounds = standing-small x im.1 in
     record {
       word = subst (λ n. IsWord n (part_word z x Header)) l.1 (part_word-IsWord z x Header im.1);
-      stands = λ c e. sym (words_taken c (length (part_bytes z x Header)) l.0) ∙ ap words_in (stands c e) ∙ sym words;
+      stands = λ c e. sym (words_taken z.byte_order c (length (part_bytes z x Header)) l.0) ∙ ap (words_in z.byte_order) (stands c e) ∙ sym words;
       sig = subst (λ v. v.sig < 2 ^ 32) (sym words) bounds.0;
       start = subst (λ v. v.start < 2 ^ 32) (sym words) bounds.1;
       size = subst (λ v. v.size < 2 ^ 32) (sym words) bounds.2;
     }
   where
-    four : (xs : List ℕ) → AreBytes xs → from_le_bytes w32 xs < 2 ^ 32
-    four xs h = four-bytes xs h
+    four : (xs : List ℕ) → AreBytes xs → word_of z.byte_order xs < 2 ^ 32
+    four xs h = word_of-small z.byte_order xs h
 
-    standing-small : (x : List ℕ) → AreBytes x → ((standing_words x).sig < 2 ^ 32)
-        × ((standing_words x).start < 2 ^ 32) × ((standing_words x).size < 2 ^ 32)
+    standing-small : (x : List ℕ) → AreBytes x → ((standing_words z x).sig < 2 ^ 32)
+        × ((standing_words z x).start < 2 ^ 32) × ((standing_words z x).size < 2 ^ 32)
     standing-small x h =
         let front : AreBytes (slice_range x 0 12) = slice_range-bytes x 0 12 h in (
           four _ (slice_range-bytes (slice_range x 0 12) 0 4 front),
@@ -521,17 +518,17 @@ is_header z x valid im stands =
 
 -- what stood at the stop of a flight
 call_stood : (z : Zone) (stop told : List ℕ) (f : Flight) → IsValidZone z → IsInFlight z stop told f
-    → ((standing_words stop).sig ≡ z.sig) × Contains (cut_pairs z (cut_of z f)) (pair_of (standing_words stop))
+    → ((standing_words z stop).sig ≡ z.sig) × Contains (cut_pairs z (cut_of z f)) (pair_of (standing_words z stop))
 unfolding call_stores
 call_stood z stop told f valid flies =
-    let w : Words = standing_words f.image in
+    let w : Words = standing_words z f.image in
     let gs : List Stage = call_stages z w f.call in
     let small = both-small gs (flat-small (call_parts z w f.call) (parts-small z valid w f.call)) in
     let t = words_track z gs f.image f.made (omega (arith, flies.size.0, valid.at_least)) small.0 in
-    let is : standing_words stop ≡ words_after w t.0 = ap standing_words flies.now ∙ t.3 in
-    let words : words_in (part_word z f.image Header) ≡ w = header_words z f.image valid flies.size in (
+    let is : standing_words z stop ≡ words_after w t.0 = ap (standing_words z) flies.now ∙ t.3 in
+    let words : words_in z.byte_order (part_word z f.image Header) ≡ w = header_words z f.image valid flies.size in (
       ap (λ v. v.sig) is ∙ sig_kept w t.0 t.1 (subst (AllByRecursion IsUnsigning) t.2 small.1) ∙ flies.ring.signed,
-      subst (λ v. Contains (pairs_from (pair_of v) (call_stages z v f.call)) (pair_of (standing_words stop)))
+      subst (λ v. Contains (pairs_from (pair_of v) (call_stages z v f.call)) (pair_of (standing_words z stop)))
           (sym words)
           (subst (λ v. Contains (pairs_from (pair_of w) gs) (pair_of v)) (sym is)
           (subst (λ hs. Contains (pairs_from (pair_of w) hs) (pair_of (words_after w t.0))) (sym t.2)
@@ -540,11 +537,11 @@ call_stood z stop told f valid flies =
 
 pub cut_zone_reads : CutZoneReads
 cut_zone_reads z stop now told f valid flies hn damage =
-    let w : Words = standing_words f.image in
-    let words : words_in (part_word z f.image Header) ≡ w = header_words z f.image valid flies.size in
+    let w : Words = standing_words z f.image in
+    let words : words_in z.byte_order (part_word z f.image Header) ≡ w = header_words z f.image valid flies.size in
     let hs : IsImage z stop = subst (IsImage z) (sym flies.now)
     (call_image z valid f.image f.call f.made flies.size flies.can) in
-    let v : Words = words_in (part_word z f.image Header) in
+    let v : Words = words_in z.byte_order (part_word z f.image Header) in
     let parts : List (List Stage) = call_parts z v f.call in
     record {
       window = window_exists _ f.made (omega (

@@ -185,9 +185,9 @@ runs_rise test (suc n) a = by (test a) (runs_rise test n (a + 1))
 -- ---- the number of stores
 
 pub length-call : (z : Zone) (f : Flight) (stop told : List ℕ) → IsValidZone z → IsInFlight z stop told f
-    → length (call_stores z f.call f.image) ≡ sum_by (stage_count z) (call_stages z (standing_words f.image) f.call)
+    → length (call_stores z f.call f.image) ≡ sum_by (stage_count z) (call_stages z (standing_words z f.image) f.call)
 unfolding call_stores
-length-call z f stop told valid flies = length-stores z valid (call_stages z (standing_words f.image) f.call)
+length-call z f stop told valid flies = length-stores z valid (call_stages z (standing_words z f.image) f.call)
     f.image flies.size.1 (call-all z valid f.image f.call flies.can)
 
 pub cut_touched : (z : Zone) (f : Flight) (stop told : List ℕ) → IsValidZone z → IsInFlight z stop told f

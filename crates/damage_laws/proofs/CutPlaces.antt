@@ -39,10 +39,10 @@ use Rattle.damage_laws.proofs.UntouchedBlocks.{LeavesBlock, untouched_same}
 use Rattle.damage_laws.proofs.TouchedBlocks.{parity_length, touches, touches-append, call-leaves, run_hits}
 
 pub old_places : (z : Zone) (stop now told : List ℕ) (f : Flight) → IsValidZone z → IsImage z stop
-    → IsInFlight z stop told f → IsImage z now → OldPlacesRead z (words_before (cut_of z f)) f.call told stop now
+    → IsInFlight z stop told f → IsImage z now → OldPlacesRead z (words_before z (cut_of z f)) f.call told stop now
 old_places z stop now told f valid hs flies hn i place at untouched within =
-    let w : Words = standing_words f.image in
-    let words : words_in (part_word z f.image Header) ≡ w = header_words z f.image valid flies.size in
+    let w : Words = standing_words z f.image in
+    let words : words_in z.byte_order (part_word z f.image Header) ≡ w = header_words z f.image valid flies.size in
     let old : slice_get (log_places w.start w.size) i ≡ Some place =
     subst (λ v. slice_get (log_places v.start v.size) i ≡ Some place) words at in
     let below : place < w.size = place_below w.start w.size i place flies.ring.ring.0 old in
@@ -213,14 +213,14 @@ module _ (z : Zone) (valid : IsValidZone z) where
       let b : min z.cap (n + length (c ∷ cs)) ≡ n + length (c ∷ cs) = omega arith in
       ap₂ (λ x y. record { start = x; size = y }) a b)
 
-  call_pairs : (image : List ℕ) (call : Call) → (standing_words image).start ≤ (standing_words image).size
-      → (standing_words image).size ≤ z.cap → CanBegin z image call
-      → AllByRecursion (Good (call_stages z (standing_words image) call) (standing_words image).size)
-      (pairs_from (record { start = (standing_words image).start; size = (standing_words image).size })
-      (call_stages z (standing_words image) call))
+  call_pairs : (image : List ℕ) (call : Call) → (standing_words z image).start ≤ (standing_words z image).size
+      → (standing_words z image).size ≤ z.cap → CanBegin z image call
+      → AllByRecursion (Good (call_stages z (standing_words z image) call) (standing_words z image).size)
+      (pairs_from (record { start = (standing_words z image).start; size = (standing_words z image).size })
+      (call_stages z (standing_words z image) call))
   unfolding pairs_from touched_by
   call_pairs image (Append payload) h k can =
-      let w : Words = standing_words image in
+      let w : Words = standing_words z image in
       let a : List Stage = append_stages z w.start w.size (last_items z.cap payload) in
       subst (λ gs. AllByRecursion (Good gs w.size) (pairs_from (record { start = w.start; size = w.size }) gs))
       (sym (append-nil a))
@@ -234,7 +234,7 @@ module _ (z : Zone) (valid : IsValidZone z) where
     ),
   )
   call_pairs image (Dump line body) h k can =
-      let w : Words = standing_words image in
+      let w : Words = standing_words z image in
       let n : ℕ = length line in
       let front : List ℕ = take (z.cap - n) body in
       let first : List Stage = append_stages z 0 0 line in
@@ -308,11 +308,11 @@ module _ (z : Zone) (valid : IsValidZone z) where
   ]
 
   pub no_other_places : (stop now told : List ℕ) (f : Flight) → IsInFlight z stop told f
-      → NoOtherPlaces z (words_before (cut_of z f)) f.call now
+      → NoOtherPlaces z (words_before z (cut_of z f)) f.call now
   no_other_places stop now told f flies place seen has free =
-      let w : Words = standing_words f.image in
+      let w : Words = standing_words z f.image in
       let v : Words = words_read z now in
-      let words : words_in (part_word z f.image Header) ≡ w = header_words z f.image valid flies.size in
+      let words : words_in z.byte_order (part_word z f.image Header) ≡ w = header_words z f.image valid flies.size in
       let among : Contains (pairs_from (pair_of w) (call_stages z w f.call)) (pair_of v) =
       subst (λ u. Contains (pairs_from (pair_of u) (call_stages z u f.call)) (pair_of v)) words seen in
       let good : Good (call_stages z w f.call) w.size (pair_of v) =

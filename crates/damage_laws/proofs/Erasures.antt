@@ -34,12 +34,12 @@ erases z now k within = by (keeps z (zone_reading z now)) refl
 
 -- the corrected header has the words that the boot read
 pub corrected_words : (z : Zone) (now : List ℕ) → IsValidZone z → IsImage z now
-    → standing_words (after_stores now (boot_fixes z now)) ≡ words_read z now
+    → standing_words z (after_stores now (boot_fixes z now)) ≡ words_read z now
 unfolding booted_bytes part_bytes
-corrected_words z now valid im = ap words_in (stands_as_read z valid now im Header tt)
+corrected_words z now valid im = ap (words_in z.byte_order) (stands_as_read z valid now im Header tt)
 
 pub erasure_words : (z : Zone) (now : List ℕ) (k : ℕ) → IsValidZone z → IsImage z now
-    → words_before (boot_cut z now k) ≡ words_read z now
+    → words_before z (boot_cut z now k) ≡ words_read z now
 unfolding booted_bytes
 erasure_words z now k valid im =
     header_words z (after_stores now (boot_fixes z now)) valid (booted_image z valid now im)

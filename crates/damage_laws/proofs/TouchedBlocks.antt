@@ -199,12 +199,12 @@ module _ (z : Zone) (valid : IsValidZone z) where
       header-leaves
 
   -- the stages of a call that may begin
-  pub call-leaves : (image : List ℕ) (call : Call) → (standing_words image).start ≤ z.cap → CanBegin z image call
-      → Leaves (call_stages z (standing_words image) call)
+  pub call-leaves : (image : List ℕ) (call : Call) → (standing_words z image).start ≤ z.cap → CanBegin z image call
+      → Leaves (call_stages z (standing_words z image) call)
   call-leaves image (Append payload) h can =
-      leaves-append (append_stages z (standing_words image).start (standing_words image).size
+      leaves-append (append_stages z (standing_words z image).start (standing_words z image).size
       (last_items z.cap payload)) []
-      (append-leaves (standing_words image).start (standing_words image).size (last_items z.cap payload) h
+      (append-leaves (standing_words z image).start (standing_words z image).size (last_items z.cap payload) h
       (omega (arith, length-drop (length payload - z.cap) payload))) none-leaves
   call-leaves image Erase h can = erase-leaves
   call-leaves image (Dump line body) h can =

@@ -2,7 +2,6 @@
 use Rattle.std.proofs.Common.{◌≡◌, ◌≢◌, ℕ, zero, suc, ◌+◌, ◌*◌, ◌<◌, ◌≤◌, ◌⊎◌, List, [], ◌∷◌, ◌++◌, length, take, refl}
 use Rattle.std.proofs.Common.{subst, arith, inl, inr, w32, mul-le-mul_right, add-mul}
 use Rattle.std.proofs.lemmas.Bool.{cases_lt}
-use Rattle.std.specs.Int.{to_le_bytes}
 use Rattle.std.specs.List.{AllByRecursion}
 use Rattle.zone_spec.specs.declared.Zone.{Zone}
 use Rattle.code_spec.specs.Code.{parity_of}
@@ -14,6 +13,7 @@ use Rattle.zone_spec.specs.Calls.{call_stages, call_stores, image_after}
 use Rattle.ring_laws.proofs.Images.{length-put, put-below, put-above}
 use Rattle.ring_laws.proofs.PartsLaw.{SamePart, SamePart-trans, SamePart-places, part_number, part_parity_at-number}
 use Rattle.ring_laws.proofs.PartsLaw.{part_end}
+use Rattle.zone_spec.specs.WordBytes.{word_bytes}
 
 -- a stage that does not touch block b: its run lies elsewhere, its parity is another part's
 abbrev pub LeavesBlock : Zone → ℕ → Stage → Type 0
@@ -33,10 +33,10 @@ abbrev pub HasParityLength : ℕ → Type 0
 HasParityLength r = (m : List ℕ) → length (parity_of r m) ≤ r
 
 module _ (z : Zone) (b : ℕ) (room : 0 < z.cap) (lengths : HasParityLength z.parity) where
-  word_leaves : (at n : ℕ) → at + 4 ≤ 12 → StoreLeaves z b (record { place = at; bytes = to_le_bytes w32 n })
-  word_leaves at n h y = SamePart-places z _ y (Block b) (length-put y at (to_le_bytes w32 n))
-      (λ i k l. put-above y at i (to_le_bytes w32 n) (omega arith))
-      (λ i k l. put-above y at i (to_le_bytes w32 n) (omega arith))
+  word_leaves : (at n : ℕ) → at + 4 ≤ 12 → StoreLeaves z b (record { place = at; bytes = word_bytes z.byte_order n })
+  word_leaves at n h y = SamePart-places z _ y (Block b) (length-put y at (word_bytes z.byte_order n))
+      (λ i k l. put-above y at i (word_bytes z.byte_order n) (omega arith))
+      (λ i k l. put-above y at i (word_bytes z.byte_order n) (omega arith))
 
   run_byte_leaves : (place c : ℕ) → place < z.cap → (z.block * (b + 1) ≤ place) ⊎ (place < z.block * b)
       → StoreLeaves z b (record { place = 12 + place; bytes = c ∷ [] })
@@ -122,8 +122,8 @@ module _ (z : Zone) (b : ℕ) (room : 0 < z.cap) (lengths : HasParityLength z.pa
 
   -- after any number of its stores
   pub untouched_same : (call : Call) (image : List ℕ) (k : ℕ)
-      → AllByRecursion (LeavesBlock z b) (call_stages z (standing_words image) call)
+      → AllByRecursion (LeavesBlock z b) (call_stages z (standing_words z image) call)
       → SamePart z (image_after z call image k) image (Block b)
   unfolding call_stores
   untouched_same call image k h = prefix_leaves k _ image
-      (stages_leave (call_stages z (standing_words image) call) image h)
+      (stages_leave (call_stages z (standing_words z image) call) image h)

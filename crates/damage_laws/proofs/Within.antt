@@ -112,10 +112,10 @@ byte_read-stop z stop now place k h reads =
 
 -- what a zone at rest reads, its header within bounds
 pub record IdleFacts (z : Zone) (stop now told : List ℕ) : Type 0 where
-  pub words : words_read z now ≡ standing_words stop
+  pub words : words_read z now ≡ standing_words z stop
   pub state : (zone_reading z now).state ≡ (if length told == 0 then Empty else Found)
   pub log : (zone_reading z now).log ≡ map (λ place. byte_read z now place)
-      (log_places (standing_words stop).start (standing_words stop).size)
+      (log_places (standing_words z stop).start (standing_words z stop).size)
 
 some_state : (n : ℕ) (s : State) → s ≡ (if suc n == 0 then Empty else Found) → s ≡ Found
 some_state n s e = let m : (suc n == 0) ≡ false = grind (arith, nat_tests) in rw m at e
@@ -139,8 +139,8 @@ pub idle_facts : (z : Zone) (stop now told : List ℕ) → IsRingForm z stop tol
     → (part_reading z now Header).bytes ≡ (part_reading z stop Header).bytes → IdleFacts z stop now told
 unfolding part_bytes
 idle_facts z stop now told ring head =
-    let w : Words = standing_words stop in
-    let words : words_read z now ≡ w = ap words_in (head ∙ part_reading-stands z stop Header ring.header) in
+    let w : Words = standing_words z stop in
+    let words : words_read z now ≡ w = ap (words_in z.byte_order) (head ∙ part_reading-stands z stop Header ring.header) in
     let state : state_of z w ≡ (if length told == 0 then Empty else Found) =
     state_of-ring z w ring.signed ring.ring.0 ring.ring.1
     ∙ ap (λ n. if n == 0 then Empty else Found) ring.told_length in
@@ -155,7 +155,7 @@ idle_facts z stop now told ring head =
 
 -- a place whose block is within bounds reads the byte that stood at the stop
 pub place_reads : (z : Zone) (stop now told : List ℕ) (place : ℕ) → IsValidZone z → IsImage z stop → IsImage z now
-    → IsRingForm z stop told → place < (standing_words stop).size
+    → IsRingForm z stop told → place < (standing_words z stop).size
     → IsWithinBounds z stop now (Block (place / z.block)) → byte_read z now place ≡ get_or stop (12 + place) 0
 place_reads z stop now told place valid hs hn ring below within =
     let m : z.block * (place / z.block) ≤ place = omega (arith, block_some z valid) in
@@ -167,7 +167,7 @@ pub idle_log : (z : Zone) (stop now told : List ℕ) → IsValidZone z → IsIma
     → IsRingForm z stop told → IsWithinBounds z stop now Header
     → BlocksWithinBounds z stop now (length told) → (zone_reading z now).log ≡ told
 idle_log z stop now told valid hs hn ring head blocks =
-    let w : Words = standing_words stop in
+    let w : Words = standing_words z stop in
     (idle_facts z stop now told ring (part_reads z stop now Header valid hs hn head)).log
     ∙ log_same _ _ w.start w.size ring.ring.0
     (λ p h. place_reads z stop now told p valid hs hn ring h
@@ -177,7 +177,7 @@ idle_log z stop now told valid hs hn ring head blocks =
 
 pub idle_zone_reads_told : IdleZoneReadsTold
 idle_zone_reads_told z stop now told valid hs hn ring head =
-    let w : Words = standing_words stop in
+    let w : Words = standing_words z stop in
     let facts : IdleFacts z stop now told = idle_facts z stop now told ring
     (part_reads z stop now Header valid hs hn head) in
     record {

@@ -27,21 +27,21 @@ IsNearHeader z now c = distance (part_word z now Header) c ≤ z.parity / 2
 -- opening words, near the closing codeword the closing words, and else the standing words, or those of another codeword
 -- near it
 pub record HeaderReads (z : Zone) (cut : Cut) (stop now : List ℕ) : Type 0 where
-  pub stood : ((standing_words stop).sig ≡ z.sig) × Contains (cut_pairs z cut) (pair_of (standing_words stop))
+  pub stood : ((standing_words z stop).sig ≡ z.sig) × Contains (cut_pairs z cut) (pair_of (standing_words z stop))
   pub as_at_stop : words_read z now ≡ words_read z stop
   pub opening : (w : Window) (c : List ℕ) → current_window z cut ≡ Some w → w.opening_codeword ≡ Some c
       → IsNearHeader z now c → words_read z now ≡ w.opening
   pub closing : (w : Window) → current_window z cut ≡ Some w → IsNearHeader z now w.closing_codeword
       → words_read z now ≡ w.closing
-  pub other : MatchOption (nearest z.parity (part_word z now Header)) (words_read z now ≡ standing_words stop)
-      (λ c. IsNearHeader z now c × (words_read z now ≡ words_in c))
+  pub other : MatchOption (nearest z.parity (part_word z now Header)) (words_read z now ≡ standing_words z stop)
+      (λ c. IsNearHeader z now c × (words_read z now ≡ words_in z.byte_order c))
 
 -- what such a zone reads, with its current part
 pub record CutReads (z : Zone) (cut : Cut) (call : Call) (told stop now : List ℕ) : Type 0 where
   pub window : (w : Window) × (current_window z cut ≡ Some w)
   pub header : HeaderReads z cut stop now
-  pub places : OldPlacesRead z (words_before cut) call told stop now
-  pub no_others : NoOtherPlaces z (words_before cut) call now
+  pub places : OldPlacesRead z (words_before z cut) call told stop now
+  pub no_others : NoOtherPlaces z (words_before z cut) call now
 
 -- so reads a zone that was in flight at its stop, and whose header is not damaged further
 abbrev pub CutZoneReads : Type 0

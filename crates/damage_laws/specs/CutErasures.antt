@@ -39,7 +39,7 @@ CorrectionsKeepReading = (z : Zone) (now : List ℕ) (k : ℕ) → IsValidZone z
 -- is the words that the boot read; the header as of a cut call; and where the boot found a log, and its blocks are
 -- within bounds, that log for pair 0, the same data from place 0 on for pair 1, and nothing for pair 2
 pub record BootCutReads (z : Zone) (now stop later : List ℕ) (cut : Cut) : Type 0 where
-  pub before : words_before cut ≡ (zone_reading z now).words
+  pub before : words_before z cut ≡ (zone_reading z now).words
   pub header : IsNotDamagedFurther z stop later → HeaderReads z cut stop later
   pub log : (zone_reading z now).state ≡ Found → BlocksWithinBounds z stop later (words_read z now).size
       → let seen = header_seen z (words_read z later) (cut_pairs z cut) in let log = (zone_reading z later).log in

@@ -11,8 +11,8 @@ abbrev pub keys : KeyTable
 keys = record {
   prefix = [];
   names = codes "total_size" ∷ codes "kmsg_size" ∷ codes "console_size" ∷ codes "pmsg_size" ∷ [];
-  choice = [];
-  choices = [];
+  first = record { key = []; texts = [] };
+  second = record { key = []; texts = [] };
 }
 
 -- the first faulty word among these, behind those

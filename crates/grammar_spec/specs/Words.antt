@@ -9,13 +9,18 @@ use Rattle.grammar_spec.specs.declared.faults.ParamFault.{ParamFault}
 use Rattle.grammar_spec.specs.declared.faults.ParamFault.TheVariants.{UnknownKey, Twice, NotANumber}
 use Rattle.grammar_spec.specs.Numbers.{number_of, begins}
 
--- the keys that words may give, and the prefix that each may have. The value of a key is a number, but for that of the
--- key `choice`, which is one of these texts
+-- a key whose value is one of these texts
+pub record Choice : Type 0 where
+  pub key : List ℕ
+  pub texts : List (List ℕ)
+
+-- the keys that words may give, and the prefix that each may have. The value of a key is a number, but for those of the
+-- two choices
 pub record KeyTable : Type 0 where
   pub prefix : List ℕ
   pub names : List (List ℕ)
-  pub choice : List ℕ
-  pub choices : List (List ℕ)
+  pub first : Choice
+  pub second : Choice
 
 -- what stands before the first `=`, without the prefix
 abbrev pub key_of : KeyTable → List ℕ → List ℕ
@@ -33,10 +38,15 @@ pub record IsSplit (table : KeyTable) (word name text : List ℕ) : Type 0 where
   pub named : key_of table word ≡ name
   pub valued : after_first (λ c. c == 61) word ≡ text
 
--- the number that a value writes; of a choice, its place among the choices
+-- the place of a text among those of a choice
+abbrev pub text_place : Choice → List ℕ → Option ℕ
+text_place choice text = position (λ own. bytes_eq own text) choice.texts
+
+-- the number that a value writes; of a choice, its place among the texts
 abbrev pub value_of : KeyTable → List ℕ → List ℕ → Option ℕ
 value_of table key text =
-    if bytes_eq key table.choice then position (λ choice. bytes_eq choice text) table.choices else number_of text
+    if bytes_eq key table.first.key then text_place table.first text
+    else (if bytes_eq key table.second.key then text_place table.second text else number_of text)
 
 -- what is wrong with a word at this place, behind these
 abbrev pub word_fault : KeyTable → List (List ℕ) → ℕ → List ℕ → Option ParamFault

@@ -8,9 +8,11 @@ use Rattle.zone_spec.specs.declared.params.Order.TheVariants.{FtracePmsg, PmsgFt
 use Rattle.zone_spec.specs.declared.params.Params.{Params}
 use Rattle.zone_spec.specs.Numbers.{most_memory}
 use Rattle.zone_spec.specs.Layout.{rounded}
-use Rattle.zone_spec.specs.Orders.{order_text}
+use Rattle.zone_spec.specs.Orders.{order_text, byte_order_text}
+use Rattle.zone_spec.specs.declared.params.ByteOrder.{ByteOrder}
 use Rattle.grammar_spec.specs.declared.faults.ParamFault.{ParamFault}
 use Rattle.grammar_spec.specs.Words.{KeyTable, ok_unless, texts, first_fault as first_fault_by, given as given_by}
+use Rattle.zone_spec.specs.declared.params.ByteOrder.TheVariants.{Little, Big}
 
 -- the keys, with the prefix of a kernel's command line
 abbrev pub keys : KeyTable
@@ -19,16 +21,16 @@ keys = record {
   names = codes "mem_size" ∷ codes "record_size" ∷ codes "console_size" ∷ codes "ftrace_size" ∷ codes "pmsg_size"
       ∷ codes "ecc" ∷ codes "cpus"
       ∷ codes "ftrace_sig" ∷ codes "block_size" ∷ codes "ecc_dump" ∷ codes "ecc_console" ∷ codes "ecc_ftrace"
-      ∷ codes "ecc_pmsg" ∷ codes "order" ∷ [];
-  choice = codes "order";
-  choices = order_text FtracePmsg ∷ order_text PmsgFtrace ∷ [];
+      ∷ codes "ecc_pmsg" ∷ codes "order" ∷ codes "byte_order" ∷ [];
+  first = record { key = codes "order"; texts = order_text FtracePmsg ∷ order_text PmsgFtrace ∷ [] };
+  second = record { key = codes "byte_order"; texts = byte_order_text Little ∷ byte_order_text Big ∷ [] };
 }
 
 -- the first faulty word among these, behind those
 abbrev pub first_fault : List (List ℕ) → List (List ℕ) → Option ParamFault
 first_fault earlier words = first_fault_by keys earlier words
 
--- the number that the words give a key; of `order`, its place among the orders
+-- the number that the words give a key; of `order` and `byte_order`, its place among the orders
 abbrev pub given : List (List ℕ) → List ℕ → Option ℕ
 given words key = given_by keys words key
 
@@ -41,9 +43,12 @@ parity_of ecc = if ecc == 1 then 16 else ecc
 abbrev pub memory_of : ℕ → ℕ
 memory_of size = if nat_lt most_memory size then size else rounded size
 
--- the order at this place among the choices
+-- the orders at this place among the texts
 abbrev pub order_at : ℕ → Order
 order_at place = if place == 0 then FtracePmsg else PmsgFtrace
+
+abbrev pub byte_order_at : ℕ → ByteOrder
+byte_order_at place = if place == 0 then Little else Big
 
 -- what the module takes where no word is given
 abbrev pub defaults : Params
@@ -62,6 +67,7 @@ defaults = record {
   ecc_ftrace = 0;
   ecc_pmsg = 0;
   order = FtracePmsg;
+  byte_order = Little;
 }
 
 -- the bytes of parity that the words give a key
@@ -94,8 +100,10 @@ with_parities words absent =
     }
 
 abbrev pub with_order : List (List ℕ) → Params → Params
-with_order words absent =
-    record absent { order = unwrap_or (option_map order_at (given words (codes "order"))) absent.order }
+with_order words absent = record absent {
+  order = unwrap_or (option_map order_at (given words (codes "order"))) absent.order;
+  byte_order = unwrap_or (option_map byte_order_at (given words (codes "byte_order"))) absent.byte_order;
+}
 
 -- the parameters of the words; what no word gives is as in `absent`
 abbrev pub params_by : (ℕ → ℕ) → Params → List (List ℕ) → Params

@@ -146,15 +146,15 @@ no_stores z (Append []) image w valid none = append-nil w
 no_stores z (Append (b ∷ bs)) image w valid none =
     let some : 0 < length (last_items z.cap (b ∷ bs)) =
     omega (arith, valid.room, length-drop (length (b ∷ bs) - z.cap) (b ∷ bs)) in
-    let h = append_stores z (standing_words image).start (standing_words image).size (last_items z.cap (b ∷ bs)) []
+    let h = append_stores z (standing_words z image).start (standing_words z image).size (last_items z.cap (b ∷ bs)) []
     image some in
     absurd (omega (arith, h))
 no_stores z Erase image w valid none =
-    let some : 0 < length (stores_in_turn z (call_stages z (standing_words image) Erase) image) =
+    let some : 0 < length (stores_in_turn z (call_stages z (standing_words z image) Erase) image) =
     (word_first z 0 (SizeWord 0 ∷ ParityOf Header ∷ []) image).0 in
     absurd (omega (arith, some))
 no_stores z (Dump line body) image w valid none =
-    let some : 0 < length (stores_in_turn z (call_stages z (standing_words image) (Dump line body)) image) =
+    let some : 0 < length (stores_in_turn z (call_stages z (standing_words z image) (Dump line body)) image) =
     (word_first z 0 _ image).0 in
     absurd (omega (arith, some))
 

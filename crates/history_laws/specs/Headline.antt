@@ -24,8 +24,8 @@ pub record ReadsWritten (z : Zone) (cut : Option Cut) (stop now bytes : List ℕ
   pub idle : cut ≡ None → IsLogWithinBounds z stop now (length (last_items z.cap bytes))
       → (zone_reading z now).log ≡ last_items z.cap bytes
   pub places : (c : Cut) (call : Call) → cut ≡ Some c → c.by ≡ ByCall call
-      → OldPlacesRead z (words_in c.header) call (last_items z.cap bytes) stop now
-      × NoOtherPlaces z (words_in c.header) call now
+      → OldPlacesRead z (words_in z.byte_order c.header) call (last_items z.cap bytes) stop now
+      × NoOtherPlaces z (words_in z.byte_order c.header) call now
 
 -- However the stores of calls interleave over the zones, stopped after any store, also of a boot, and then damaged: the
 -- next boot reads so of each zone what the operations wrote to it since its erasure

@@ -6,7 +6,7 @@ ghost use Rattle.layout_search.specs.Laid.{IsLaid};
 use layout_spec::Candidate;
 use ramoops_layout::{LayoutError, layout};
 use std::alloc::{AllocError, Global};
-use zone_spec::{Params, Zone};
+use zone_spec::{ByteOrder, Params, Zone};
 
 /// The candidate's parameters.
 pub fn params(c: &Candidate) -> Params
@@ -27,6 +27,7 @@ pub fn params(c: &Candidate) -> Params
         ecc_ftrace: c.parity,
         ecc_pmsg: c.parity,
         order: c.order,
+        byte_order: ByteOrder::Little,
     }
 }
 

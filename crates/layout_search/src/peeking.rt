@@ -13,7 +13,7 @@ use crate::sights::{Sights, see};
 use layout_spec::Candidate;
 use ramoops_layout::rows::parity;
 use std::alloc::{AllocError, Global};
-use zone_spec::{Kind, Zone, ZoneName};
+use zone_spec::{ByteOrder, Kind, Zone, ZoneName};
 
 // The first dump zone, if the dump zones have this size.
 fn first_zone(c: &Candidate, size: u64) -> Zone
@@ -39,6 +39,7 @@ fn first_zone(c: &Candidate, size: u64) -> Zone
         parity: parity as u32,
         sig: 0x43474244,
         block: 128,
+        byte_order: ByteOrder::Little,
     }
 }
 

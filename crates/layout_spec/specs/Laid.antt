@@ -3,10 +3,11 @@ use Rattle.std.specs.Prelude.{ℕ, Bool, List, is_ok}
 use Rattle.zone_spec.specs.declared.Zone.{Zone}
 use Rattle.zone_spec.specs.declared.params.Params.{Params}
 use Rattle.zone_spec.specs.declared.params.Row.{Row}
+use Rattle.zone_spec.specs.declared.params.ByteOrder.TheVariants.{Little}
 use Rattle.zone_spec.specs.Layout.{layout_of, zones_of as zones_by, rows, dump_memory}
 use Rattle.layout_spec.specs.declared.Candidate.{Candidate}
 
--- its parameters: one parity for all kinds, and blocks of 128 bytes
+-- its parameters: one parity for all kinds, blocks of 128 bytes, and words of a little-endian machine
 abbrev pub params_of : Candidate → Params
 params_of c = record {
   mem = c.mem;
@@ -23,6 +24,7 @@ params_of c = record {
   ecc_ftrace = c.parity;
   ecc_pmsg = c.parity;
   order = c.order;
+  byte_order = Little;
 }
 
 abbrev pub rows_of : Candidate → List Row

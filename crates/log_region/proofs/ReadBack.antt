@@ -12,7 +12,11 @@ use Rattle.zone_spec.specs.declared.Zone.{Zone}
 use Rattle.zone_spec.specs.declared.Kind.TheVariants.{Console}
 use Rattle.zone_spec.specs.Reading.{log_places}
 use Rattle.zone_spec.specs.Numbers.{plain_sig}
-use Rattle.zone_spec.specs.Parts.{Part, Header, Block, part_word, part_bytes, standing_words}
+use Rattle.zone_spec.specs.Parts.{Part, Header, Block, part_word, part_bytes, words_in, standing_words}
+use Rattle.zone_spec.specs.declared.Words.{Words}
+use Rattle.zone_spec.specs.declared.params.ByteOrder.TheVariants.{Little}
+use Rattle.zone_spec.specs.WordBytes.{turned}
+use Rattle.std.proofs.Common.{slice_range}
 use Rattle.zone_spec.specs.Ring.{ReadsAsStands, IsRingForm}
 use Rattle.ring_laws.specs.Laws.{ReadsTold}
 use Rattle.ring_laws.proofs.AppendLaw.{word_of-stored}
@@ -71,14 +75,17 @@ module _ (a b : ℕ) (xs zs : List ℕ) where
       ∙ (let e : (((12 + i) - 4) - 4) - 4 ≡ i = omega arith in ap (λ n. get_or (xs ++ zs) n 0) e)
       ∙ get_or_append_left xs zs 0 i h
 
-  sig_is : a < 2 ^ 32 → (standing_words front).sig ≡ a
-  sig_is h = word_of-stored front 0 a (omega arith) h sig_byte
+  abbrev front_words : Words
+  front_words = words_in Little (slice_range front 0 12)
 
-  start_is : b < 2 ^ 32 → (standing_words front).start ≡ b
-  start_is h = word_of-stored front 4 b (omega arith) h start_byte
+  sig_is : a < 2 ^ 32 → front_words.sig ≡ a
+  sig_is h = word_of-stored Little front 0 a (omega arith) h sig_byte
 
-  size_is : b < 2 ^ 32 → (standing_words front).size ≡ b
-  size_is h = word_of-stored front 8 b (omega arith) h size_byte
+  start_is : b < 2 ^ 32 → front_words.start ≡ b
+  start_is h = word_of-stored Little front 4 b (omega arith) h start_byte
+
+  size_is : b < 2 ^ 32 → front_words.size ≡ b
+  size_is h = word_of-stored Little front 8 b (omega arith) h size_byte
 
   pub grouped : to_le_bytes w32 a ++ to_le_bytes w32 b ++ to_le_bytes w32 b ++ xs ++ zs ≡ front
   grouped = append_assoc (to_le_bytes w32 a ++ to_le_bytes w32 b ++ to_le_bytes w32 b) xs zs
@@ -100,25 +107,28 @@ module _ (a b : ℕ) (xs zs : List ℕ) where
       )
 
   -- the zone holds the list
-  ring_form : (z : Zone) → z.parity ≡ 0 → z.sig ≡ a → a < 2 ^ 32 → b < 2 ^ 32 → b < z.cap → length xs ≡ b
+  ring_form : (z : Zone) → z.byte_order ≡ Little → z.parity ≡ 0 → z.sig ≡ a → a < 2 ^ 32 → b < 2 ^ 32 → b < z.cap → length xs ≡ b
       → z.name.kind ≡ Console → IsRingForm z front xs
-  ring_form z plain sig few_a few_b room len kind = record {
-    ring = (omega (arith, start_is few_b, size_is few_b), omega (arith, size_is few_b, room));
-    signed = sig_is few_a ∙ sym sig;
-    told_length = size_is few_b ∙ sym len;
-    bytes = places (standing_words front).start (standing_words front).size (start_is few_b) (size_is few_b);
-    is_open = open_at z.name.kind (standing_words front) z.cap (omega (arith, start_is few_b, room))
-        (λ h. start_is few_b ∙ sym (size_is few_b));
-    header = plain_stands z front Header plain;
-    blocks = λ k h. plain_stands z front (Block k) plain;
-  } where
-    places : (s n : ℕ) → s ≡ b → n ≡ b → map (λ place. get_or front (12 + place) 0) (log_places s n) ≡ xs
-    places s n es en =
-        let none : b - b ≡ 0 = omega arith in
-        ap (λ m. map (λ place. get_or front (12 + place) 0) (log_places m n)) es
-        ∙ ap (λ m. map (λ place. get_or front (12 + place) 0) (log_places b m)) en
-        ∙ ap (λ m. map (λ place. get_or front (12 + place) 0) (range_with_len b m ++ range_with_len 0 b)) none
-        ∙ items xs front b len (λ i h. log_byte i (omega (arith, h, len)))
+  ring_form z little plain sig few_a few_b room len kind =
+      let same : standing_words z front ≡ front_words = ap (λ order. words_in order (slice_range front 0 12)) little in
+      let signature : (standing_words z front).sig ≡ a = ap (λ (w : Words). w.sig) same ∙ sig_is few_a in
+      let start : (standing_words z front).start ≡ b = ap (λ (w : Words). w.start) same ∙ start_is few_b in
+      let size : (standing_words z front).size ≡ b = ap (λ (w : Words). w.size) same ∙ size_is few_b in record {
+        ring = (omega (arith, start, size), omega (arith, size, room));
+        signed = signature ∙ sym sig;
+        told_length = size ∙ sym len;
+        bytes = places (standing_words z front).start (standing_words z front).size start size;
+        is_open = open_at z.name.kind (standing_words z front) z.cap (omega (arith, start, room)) (λ h. start ∙ sym size);
+        header = plain_stands z front Header plain;
+        blocks = λ k h. plain_stands z front (Block k) plain;
+      } where
+        places : (s n : ℕ) → s ≡ b → n ≡ b → map (λ place. get_or front (12 + place) 0) (log_places s n) ≡ xs
+        places s n es en =
+            let none : b - b ≡ 0 = omega arith in
+            ap (λ m. map (λ place. get_or front (12 + place) 0) (log_places m n)) es
+            ∙ ap (λ m. map (λ place. get_or front (12 + place) 0) (log_places b m)) en
+            ∙ ap (λ m. map (λ place. get_or front (12 + place) 0) (range_with_len b m ++ range_with_len 0 b)) none
+            ∙ items xs front b len (λ i h. log_byte i (omega (arith, h, len)))
 
 pub logs_read : (log : List ℕ) → IsReadBack log
 unfolding region_of
@@ -135,6 +145,6 @@ logs_read log =
           ∙ (let r : length zeros ≡ size - (12 + n) = length-replicate (size - (12 + n)) 0 in omega (arith, r, room));
       reads = subst (λ image. ReadsTold (zone_of size) image (kept log)) (sym same)
           (ring_form_reads_told (zone_of size) (front plain_sig n (kept log) zeros) (kept log) (zone_valid size g)
-          (ring_form plain_sig n (kept log) zeros (zone_of size) refl refl (omega arith)
+          (ring_form plain_sig n (kept log) zeros (zone_of size) refl refl refl (omega arith)
           (omega (arith, kept_few log)) (omega (arith, room)) refl refl));
     }

@@ -10,6 +10,7 @@ use Rattle.zone_spec.specs.Numbers.{plain_sig}
 use Rattle.zone_spec.specs.Layout.{layout_of, zone_at}
 use Rattle.zone_spec.specs.Told.{last_items}
 use Rattle.ring_laws.specs.Laws.{ReadsTold}
+use Rattle.zone_spec.specs.declared.params.ByteOrder.TheVariants.{Little}
 
 -- the most bytes of a log that the largest region holds before its console goes round
 abbrev pub most_kept : ℕ
@@ -45,6 +46,7 @@ params_of size = record {
   ecc_ftrace = 0;
   ecc_pmsg = 0;
   order = FtracePmsg;
+  byte_order = Little;
 }
 
 abbrev pub zone_of : ℕ → Zone

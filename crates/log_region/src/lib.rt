@@ -7,7 +7,7 @@ ghost use Rattle.log_region.specs.Regions.{most_kept, kept as kept_of, size_for,
 pub mod laws;
 
 use std::alloc::{AllocError, Global};
-use zone_spec::{Order, Params};
+use zone_spec::{ByteOrder, Order, Params};
 
 /// The most bytes of a log that a region holds.
 pub const MOST_KEPT: usize = 16_777_203;
@@ -62,6 +62,7 @@ pub fn params(len: usize) -> Params
         ecc_ftrace: 0,
         ecc_pmsg: 0,
         order: Order::FtracePmsg,
+        byte_order: ByteOrder::Little,
     }
 }
 

@@ -29,8 +29,8 @@ zone_reads z zone now valid sound hn = record {
       let f = sound.in_flight cut call c own in
       let same : f.0 ≡ told = (let e : Some f.0 ≡ Some told = sym f.2.told_is ∙ t in cc) in
       let at : IsInFlight z zone.stop told f.1 = subst (λ xs. IsInFlight z zone.stop xs f.1) same f.2.at_stop in
-      flight_call (λ k c. OldPlacesRead z (words_before k) c told zone.stop now
-      × NoOtherPlaces z (words_before k) c now) z f.1 cut call f.2.cut_is own (
+      flight_call (λ k c. OldPlacesRead z (words_before z k) c told zone.stop now
+      × NoOtherPlaces z (words_before z k) c now) z f.1 cut call f.2.cut_is own (
         old_places z zone.stop now told f.1 valid sound.size at hn,
         no_other_places z valid zone.stop now told f.1 at,
       );

@@ -140,7 +140,7 @@ module _ (layout : List Zone) (mem : ℕ) (lies : IsLayout layout mem) where
       begins-sound live (Append payload) false (ring_only (target layout live name)) next state
       (λ t h. target-some layout live name t (ring_only-is (target layout live name) t h).0)
       (λ t h f ring. (
-        open_ring t.zone.name.kind (standing_words t.live.image) t.zone.cap
+        open_ring t.zone.name.kind (standing_words t.zone t.live.image) t.zone.cap
             (ring_only-is (target layout live name) t h).1 ring.is_open,
         fit,
       )) e

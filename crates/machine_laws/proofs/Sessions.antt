@@ -70,7 +70,7 @@ zone_undamaged z zone now valid sound hn = record {
   places = λ told cut call t c own same.
       let f = sound.in_flight cut call c own in
       let e : f.0 ≡ told = (let g : Some f.0 ≡ Some told = sym f.2.told_is ∙ t in cc) in
-      flight_call (λ k c. OldPlacesRead z (words_before k) c told zone.stop now) z f.1 cut call f.2.cut_is own
+      flight_call (λ k c. OldPlacesRead z (words_before z k) c told zone.stop now) z f.1 cut call f.2.cut_is own
       (old_places z zone.stop now told f.1 valid sound.size
       (subst (λ xs. IsInFlight z zone.stop xs f.1) e f.2.at_stop) hn);
 }

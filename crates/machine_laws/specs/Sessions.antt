@@ -50,7 +50,7 @@ pub record ReadsAsAtStop (z : Zone) (zone : OffZone) (now : List ℕ) : Type 0 w
       → verdict_of zone.told (zone_reading z now).log ≡ AsTold
   pub places : (told : List ℕ) (cut : Cut) (call : Call) → zone.told ≡ Some told → zone.cut ≡ Some cut
       → cut.by ≡ ByCall call → now ≡ zone.stop
-      → OldPlacesRead z (words_before cut) call told zone.stop now
+      → OldPlacesRead z (words_before z cut) call told zone.stop now
 
 -- so reads each zone of a sound state
 abbrev pub UndamagedReadsTold : Type 0

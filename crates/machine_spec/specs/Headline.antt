@@ -39,8 +39,8 @@ pub record ReadsLastWritten (z : Zone) (zone : OffZone) (now : List ℕ) : Type 
   pub idle : (told : List ℕ) → zone.told ≡ Some told → zone.cut ≡ None
       → IsLogWithinBounds z zone.stop now (length told) → (zone_reading z now).log ≡ told
   pub places : (told : List ℕ) (cut : Cut) (call : Call) → zone.told ≡ Some told → zone.cut ≡ Some cut
-      → cut.by ≡ ByCall call → OldPlacesRead z (words_before cut) call told zone.stop now
-      × NoOtherPlaces z (words_before cut) call now
+      → cut.by ≡ ByCall call → OldPlacesRead z (words_before z cut) call told zone.stop now
+      × NoOtherPlaces z (words_before z cut) call now
 
 -- it is so of each zone of an off state and of its bytes as they stand
 abbrev pub EachOffZone : List Zone → OffState → (Zone → OffZone → List ℕ → Type 0) → Type 0

@@ -5,6 +5,9 @@ use Rattle.std.proofs.Common.{subst, arith, inl, inr, eq-eqb, length-take, get_o
 use Rattle.std.proofs.lemmas.Bool.{cases_lt}
 use Rattle.std.proofs.lemmas.List.{get_or_append_left, get_or-append_right, length-replicate, get_or_past}
 use Rattle.zone_spec.specs.declared.Zone.{Zone}
+use Rattle.zone_spec.specs.declared.params.ByteOrder.{ByteOrder}
+use Rattle.zone_spec.specs.declared.params.ByteOrder.TheVariants.{Little, Big}
+use Rattle.zone_spec.specs.WordBytes.{turned}
 use Rattle.zone_spec.specs.declared.Words.{Words}
 use Rattle.zone_spec.specs.declared.State.{State}
 use Rattle.zone_spec.specs.declared.State.TheVariants.{Unsigned, Empty, Invalid, Found}
@@ -71,8 +74,9 @@ fix_same place (x ∷ xs) = rw (eq-eqb x x refl) (fix_same (place + 1) xs)
 abbrev no_words : Words
 no_words = record { sig = 0; start = 0; size = 0 }
 
-no_words_in : words_in (replicate 12 0) ≡ no_words
-no_words_in = refl
+no_words_in : (order : ByteOrder) → words_in order (replicate 12 0) ≡ no_words
+no_words_in Little = refl
+no_words_in Big = refl
 
 module _ (z : Zone) (now : List ℕ) (valid : IsValidZone z) (image : IsImage z now) (none : AreZeros now) where
   header_zeros : AreZeros (part_word z now Header)
@@ -94,7 +98,7 @@ module _ (z : Zone) (now : List ℕ) (valid : IsValidZone z) (image : IsImage z 
       (nearest-codeword z.parity (part_word z now Header) header_code) ∙ part_bytes-word z now Header
 
   blank_words : words_read z now ≡ no_words
-  blank_words = ap words_in (header_reads ∙ header_bytes) ∙ no_words_in
+  blank_words = ap (words_in z.byte_order) (header_reads ∙ header_bytes) ∙ no_words_in z.byte_order
 
   no_log : (w : Words) → w ≡ no_words → (reading_in z now w (state_of z w)).log ≡ []
   no_log w e = subst (λ v. (reading_in z now v (state_of z v)).log ≡ []) (sym e) (by (0 == z.sig))

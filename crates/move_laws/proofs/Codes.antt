@@ -177,15 +177,15 @@ module _ (z : Zone) (valid : IsValidZone z) where
           ∷ run_stages z 0 (c ∷ cs))))
 
   pub append_codes : (image : List ℕ) (c : ℕ) (cs : List ℕ) → length (c ∷ cs) ≤ z.cap → IsImage z image
-      → AreBytes (c ∷ cs) → (standing_words image).start ≡ 0 → (standing_words image).size ≡ 0
+      → AreBytes (c ∷ cs) → (standing_words z image).start ≡ 0 → (standing_words z image).size ≡ 0
       → HasCodes z (image_after z (Append (c ∷ cs)) image (length (call_stores z (Append (c ∷ cs)) image)))
       (length (c ∷ cs))
   append_codes image c cs fits is new start size =
       let q : List ℕ = c ∷ cs in
-      let stages : call_stages z (standing_words image) (Append q) ≡ append_stages z 0 0 q =
-      ap (λ xs. append_stages z (standing_words image).start (standing_words image).size xs ++ [])
+      let stages : call_stages z (standing_words z image) (Append q) ≡ append_stages z 0 0 q =
+      ap (λ xs. append_stages z (standing_words z image).start (standing_words z image).size xs ++ [])
       (last_items-short z.cap q fits)
-      ∙ append-nil (append_stages z (standing_words image).start (standing_words image).size q)
+      ∙ append-nil (append_stages z (standing_words z image).start (standing_words z image).size q)
       ∙ ap₂ (λ s n. append_stages z s n q) start size in
       let whole : image_after z (Append q) image (length (call_stores z (Append q) image))
       ≡ all_stages z ((SizeWord (min z.cap (0 + length q)) ∷ StartWord ((0 + length q) % z.cap)

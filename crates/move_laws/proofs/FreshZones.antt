@@ -47,7 +47,7 @@ some_stores : (z : Zone) (image : List ℕ) (b : ℕ) (bs : List ℕ) → last_i
     → (length (call_stores z (Append (b ∷ bs)) image) == 0) ≡ false
 unfolding call_stores
 some_stores z image b bs e =
-    let w : Words = standing_words image in
+    let w : Words = standing_words z image in
     let q : List ℕ = b ∷ bs in
     eqb_zero_from_lt _ (subst (λ xs. 0 < length (stores_in_turn z (append_stages z w.start w.size xs ++ []) image))
     (sym e)
@@ -58,17 +58,17 @@ some_stores z image b bs e =
 no_stores : (z : Zone) (image : List ℕ) → (length (call_stores z (Append []) image) == 0) ≡ true
 unfolding call_stores stores_in_turn
 no_stores z image =
-    let w : Words = standing_words image in
+    let w : Words = standing_words z image in
     ap (λ xs. length (stores_in_turn z (append_stages z w.start w.size xs ++ []) image) == 0)
     (last_items-short z.cap [] (omega arith))
 
 -- ---- one log
 
 module _ (z : Zone) (valid : IsValidZone z) where
-  open_empty : (bytes : List ℕ) → IsRingForm z bytes [] → IsOpen (standing_words bytes) z.cap
+  open_empty : (bytes : List ℕ) → IsRingForm z bytes [] → IsOpen (standing_words z bytes) z.cap
   open_empty bytes ring =
-      let size : (standing_words bytes).size ≡ 0 = ring.told_length in
-      let below : (standing_words bytes).start ≤ (standing_words bytes).size = ring.ring.0 in
+      let size : (standing_words z bytes).size ≡ 0 = ring.told_length in
+      let below : (standing_words z bytes).start ≤ (standing_words z bytes).size = ring.ring.0 in
       (omega (arith, size, below, valid.room), λ h. omega (arith, size, below))
 
   pub ring_of : (zone : LiveZone) (told : List ℕ) → IsTold z zone told → IsRingForm z zone.image told
@@ -111,9 +111,9 @@ module _ (z : Zone) (valid : IsValidZone z) where
   told_some zone b bs bytes fits is =
       let log : List ℕ = b ∷ bs in
       let ring : IsRingForm z zone.image [] = ring_of zone [] is in
-      let size : (standing_words zone.image).size ≡ 0 = ring.told_length in
-      let start : (standing_words zone.image).start ≡ 0 =
-      (let below : (standing_words zone.image).start ≤ (standing_words zone.image).size = ring.ring.0 in
+      let size : (standing_words z zone.image).size ≡ 0 = ring.told_length in
+      let start : (standing_words z zone.image).start ≡ 0 =
+      (let below : (standing_words z zone.image).start ≤ (standing_words z zone.image).size = ring.ring.0 in
       omega (arith, size, below)) in
       let go : begun z (Append log) zone ≡ record zone {
         flight = Some (record { image = zone.image; call = Append log; made = 0 });

@@ -68,9 +68,9 @@ pub record IsAsked (place : ZonePlace) (image line : List ℕ) : Type 0 where
 
 -- the zone's words are signed as the zone is, and are a ring, which for an append can be appended to
 pub record CanBeWritten (z : Zone) (call : Call) (image : List ℕ) : Type 0 where
-  pub sig : (standing_words image).sig ≡ z.sig
-  pub ring : IsRing (standing_words image) z.cap
-  pub is_open : IsOpenFor call (standing_words image) z.cap
+  pub sig : (standing_words z image).sig ≡ z.sig
+  pub ring : IsRing (standing_words z image) z.cap
+  pub is_open : IsOpenFor call (standing_words z image) z.cap
 
 -- the flight of the call before its first store
 pub record IsBegun (place : ZonePlace) (kind : CallKind) (image line payload : List ℕ) (f : Flight) : Type 0 where

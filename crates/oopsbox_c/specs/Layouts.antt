@@ -9,7 +9,7 @@ use Rattle.zone_spec.specs.LayoutFaults.{fault_number}
 use Rattle.grammar_spec.specs.ZoneWords.{order_at}
 use Rattle.ramoops_layout.specs.declared.finding.Found.{Found as FoundZone}
 use Rattle.ramoops_layout.specs.Found.{zone_named}
-use Rattle.oopsbox_c.specs.Places.{name_in, place_of, layout_answer, fault_answer}
+use Rattle.oopsbox_c.specs.Places.{name_in, byte_order_in, place_of, layout_answer, fault_answer}
 use Rattle.oopsbox_c.specs.declared.ends.End.{End}
 use Rattle.oopsbox_c.specs.declared.ends.End.TheVariants.{Done, Fault, Argument}
 use Rattle.oopsbox_c.specs.declared.layouts.LayoutParams.{LayoutParams}
@@ -33,6 +33,7 @@ params_in p = record {
   ecc_ftrace = p.ecc_ftrace;
   ecc_pmsg = p.ecc_pmsg;
   order = order_at p.order;
+  byte_order = byte_order_in p.byte_order;
 }
 
 -- the layout has a zone of this name, and both were told
@@ -56,16 +57,16 @@ pub record TellsNoLayout (params : Params) (after : LayoutAnswer) : Type 0 where
   pub is : layout_of params ≡ Err fault
   pub answer : after ≡ fault_answer (fault_number fault) 0
 
--- kind and order are numbers of one
-abbrev pub AreNumbered : ℕ → ℕ → Type 0
-AreNumbered kind order = (kind ≤ 3) × (order ≤ 1)
+-- kind and orders are numbers of one
+abbrev pub AreNumbered : ℕ → LayoutParams → Type 0
+AreNumbered kind p = (kind ≤ 3) × (p.order ≤ 1) × (p.byte_order ≤ 1)
 
 abbrev pub ZoneAtEnds : End → LayoutParams → ℕ → ℕ → ZonePlace → ZonePlace → LayoutAnswer → LayoutAnswer → Type 0
-ZoneAtEnds Done p kind index old new before after = AreNumbered kind p.order
+ZoneAtEnds Done p kind index old new before after = AreNumbered kind p
     × TellsZone (params_in p) (name_in kind index) new after
-ZoneAtEnds Fault p kind index old new before after = AreNumbered kind p.order × TellsNoLayout (params_in p) after
+ZoneAtEnds Fault p kind index old new before after = AreNumbered kind p × TellsNoLayout (params_in p) after
     × (new ≡ old)
-ZoneAtEnds Argument p kind index old new before after = ((3 < kind) ⊎ (1 < p.order)
+ZoneAtEnds Argument p kind index old new before after = ((3 < kind) ⊎ (1 < p.order) ⊎ (1 < p.byte_order)
     ⊎ LacksZone (params_in p) (name_in kind index)) × (new ≡ old) × (after ≡ before)
 ZoneAtEnds other p kind index old new before after = ⊥
 

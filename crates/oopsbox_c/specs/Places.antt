@@ -7,6 +7,8 @@ use Rattle.zone_spec.specs.declared.Kind.TheVariants.{Dump, Console, Ftrace, Pms
 use Rattle.zone_spec.specs.declared.State.{State}
 use Rattle.zone_spec.specs.declared.State.TheVariants.{Unsigned, Empty, Invalid, Found}
 use Rattle.zone_spec.specs.declared.params.Params.{Params}
+use Rattle.zone_spec.specs.declared.params.ByteOrder.{ByteOrder}
+use Rattle.zone_spec.specs.declared.params.ByteOrder.TheVariants.{Little, Big}
 use Rattle.zone_spec.specs.Reading.{ZoneReading}
 use Rattle.zone_spec.specs.Zones.{IsValidZone}
 use Rattle.oopsbox_c.specs.declared.places.ZonePlace.{ZonePlace}
@@ -25,6 +27,14 @@ kind_number Pmsg = 3
 abbrev pub kind_in : ℕ → Kind
 kind_in n = if n == 0 then Dump else (if n == 1 then Console else (if n == 2 then Ftrace else Pmsg))
 
+abbrev pub byte_order_number : ByteOrder → ℕ
+byte_order_number Little = 0
+byte_order_number Big = 1
+
+-- and back; a number above 1 is none of these
+abbrev pub byte_order_in : ℕ → ByteOrder
+byte_order_in n = if n == 0 then Little else Big
+
 abbrev pub name_in : ℕ → ℕ → ZoneName
 name_in kind index = record { kind = kind_in kind; index = index }
 
@@ -39,6 +49,7 @@ state_number Found = 3
 abbrev pub place_of : Zone → ZonePlace
 place_of z = record {
   kind = kind_number z.name.kind;
+  byte_order = byte_order_number z.byte_order;
   index = z.name.index;
   at = z.at;
   size = z.size;
@@ -59,11 +70,13 @@ zone_in p = record {
   parity = p.parity;
   block = p.block;
   sig = p.sig;
+  byte_order = byte_order_in p.byte_order;
 }
 
 -- the place of a zone that a layout can have
 pub record IsPlace (p : ZonePlace) : Type 0 where
   pub kind : p.kind ≤ 3
+  pub byte_order : p.byte_order ≤ 1
   pub valid : IsValidZone (zone_in p)
 
 -- ---- answers

@@ -1,11 +1,11 @@
 -- The stores of the definitions that stores as C sees them stand for
 use Rattle.std.specs.Prelude.{ℕ, ◌≡◌, ◌+◌, ◌≤◌, ◌⊎◌, List, [], ◌∷◌, if◌then◌else◌, ◌==◌, length, take, drop}
 use Rattle.std.specs.List.{flat_map, AllByRecursion}
-use Rattle.std.specs.Int.{to_le_bytes}
 use Rattle.std.proofs.Common.{w32}
 use Rattle.zone_spec.specs.Stores.{Store, byte_stores}
 use Rattle.oopsbox_c.specs.declared.stores.StoreRow.{StoreRow}
 use Rattle.oopsbox_c.specs.declared.stores.Stores.{Stores}
+use Rattle.std.specs.Int.{to_le_bytes}
 
 -- four bytes at once, or a byte for each of the run
 abbrev pub row_stores : StoreRow → List ℕ → List ℕ → List Store

@@ -14,7 +14,7 @@ ghost use Rattle.zone_spec.specs.declared.CallKind.TheVariants.{Append, Erase, D
 
 use crate::End;
 use crate::numbers::{call_in, call_number, leg_in, leg_number, phase_in, phase_number};
-use crate::places::{ZonePlace, is_place, zone_in};
+use crate::places::{ZonePlace, byte_order_in, is_place, zone_in};
 use crate::stores::Stores;
 use crate::tables::{TableRow, is_lendable, lend};
 use prz_ecc::words_of;
@@ -112,11 +112,11 @@ fn is_flight(flight: &Flight, line: &[u8], payload: &[u8]) -> bool
     line.len() <= 36 && steps_of(flight).is_kept(line, payload)
 }
 
-fn signature(image: &[u8]) -> u32
+fn signature(place: &ZonePlace, image: &[u8]) -> u32
     requires { 12 ≤ length image.now }
-    ensures { result ≡ (standing_words image.now).sig }
+    ensures { result ≡ (standing_words (zone_in place.now) image.now).sig }
 {
-    words_of(&image[0..12]).sig
+    words_of(byte_order_in(place.byte_order), &image[0..12]).sig
 }
 
 fn begin(
@@ -132,7 +132,7 @@ fn begin(
     if !is_asked(place, image, line) {
         return End::Argument;
     }
-    if signature(image) != place.sig {
+    if signature(place, image) != place.sig {
         return End::Closed;
     }
     match Steps::try_begin(zone_in(place), kind, image, line, payload) {

@@ -4,12 +4,13 @@ ghost use Rattle.oopsbox_c.specs.Ends.{status_of};
 ghost use Rattle.oopsbox_c.specs.Layouts.{params_in, FoundEnds, ZoneAtEnds};
 
 use crate::End;
-use crate::places::{LayoutAnswer, ZonePlace, kind_in, place_of};
+use crate::places::{LayoutAnswer, ZonePlace, byte_order_in, kind_in, place_of};
 use ramoops_layout::{Found, find, order_at};
 use zone_spec::{Params, ZoneName};
 
 /// The parameters of a layout, in bytes, as those of [`Params`]. `order` is 0 where the ftrace zones lie before pmsg, as
-/// Linux 6.1 lays them out, and 1 where pmsg lies before them, as Linux 6.12 does.
+/// Linux 6.1 lays them out, and 1 where pmsg lies before them, as Linux 6.12 does. `byte_order` is 0 for headers of a
+/// little-endian machine, and 1 for those of a big-endian one.
 #[repr(C)]
 #[derive(Clone, Copy, Debug, Default, PartialEq, Eq)]
 pub struct LayoutParams {
@@ -26,7 +27,8 @@ pub struct LayoutParams {
     pub ecc_ftrace: u64,
     pub ecc_pmsg: u64,
     pub ftrace_sig: u32,
-    pub order: u32,
+    pub order: u16,
+    pub byte_order: u16,
 }
 
 fn params_in(params: &LayoutParams) -> Params
@@ -46,7 +48,8 @@ fn params_in(params: &LayoutParams) -> Params
         ecc_console: params.ecc_console,
         ecc_ftrace: params.ecc_ftrace,
         ecc_pmsg: params.ecc_pmsg,
-        order: order_at(params.order),
+        order: order_at(u32::from(params.order)),
+        byte_order: byte_order_in(params.byte_order),
     }
 }
 
@@ -77,7 +80,7 @@ fn find_zone(
 ) -> End
     ensures { ZoneAtEnds result params.now kind index place.old place.new answer.old answer.new }
 {
-    if kind > 3 || params.order > 1 {
+    if kind > 3 || params.order > 1 || params.byte_order > 1 {
         return End::Argument;
     }
     let name = ZoneName {

@@ -1,15 +1,17 @@
 // Zones, layouts and readings as C sees them, and back.
 ghost use Rattle.std.specs.Prelude.{◌≡◌, ◌≤◌, ◌^◌, ◌↔◌, IsTrue};
 ghost use Rattle.zone_spec.specs.Zones.{IsValidZone, blocks_in};
-ghost use Rattle.oopsbox_c.specs.Places.{kind_number, kind_in, state_number, place_of, zone_in, IsPlace};
+ghost use Rattle.oopsbox_c.specs.Places.{kind_number, kind_in, byte_order_number, byte_order_in, state_number, place_of, zone_in, IsPlace};
 
-use zone_spec::{Kind, State, Zone, ZoneName};
+use zone_spec::{ByteOrder, Kind, State, Zone, ZoneName};
 
-/// A zone as C sees it. The kinds are 0 dump, 1 console, 2 ftrace, 3 pmsg; the rest is that of [`Zone`].
+/// A zone as C sees it. The kinds are 0 dump, 1 console, 2 ftrace, 3 pmsg, the orders of bytes 0 little, 1 big; the rest
+/// is that of [`Zone`].
 #[repr(C)]
 #[derive(Clone, Copy, Debug, Default, PartialEq, Eq)]
 pub struct ZonePlace {
-    pub kind: u32,
+    pub kind: u16,
+    pub byte_order: u16,
     pub index: u32,
     pub at: u32,
     pub size: u32,
@@ -44,7 +46,7 @@ pub struct ZoneAnswer {
     pub bad: u32,
 }
 
-fn kind_number(kind: Kind) -> u32
+fn kind_number(kind: Kind) -> u16
     ensures { result ≡ kind_number kind }
 {
     match kind {
@@ -52,6 +54,26 @@ fn kind_number(kind: Kind) -> u32
         Kind::Console => 1,
         Kind::Ftrace => 2,
         Kind::Pmsg => 3,
+    }
+}
+
+fn byte_order_number(order: ByteOrder) -> u16
+    ensures { result ≡ byte_order_number order }
+{
+    match order {
+        ByteOrder::Little => 0,
+        ByteOrder::Big => 1,
+    }
+}
+
+/// The order of bytes of a number up to 1.
+pub(crate) fn byte_order_in(number: u16) -> ByteOrder
+    ensures { result ≡ byte_order_in number }
+{
+    if number == 0 {
+        ByteOrder::Little
+    } else {
+        ByteOrder::Big
     }
 }
 
@@ -83,6 +105,7 @@ pub(crate) fn place_of(zone: &Zone) -> ZonePlace
 {
     ZonePlace {
         kind: kind_number(zone.name.kind),
+        byte_order: byte_order_number(zone.byte_order),
         index: zone.name.index,
         at: zone.at,
         size: zone.size,
@@ -100,7 +123,7 @@ pub(crate) fn zone_in(place: &ZonePlace) -> Zone
 {
     Zone {
         name: ZoneName {
-            kind: kind_in(place.kind),
+            kind: kind_in(u32::from(place.kind)),
             index: place.index,
         },
         at: place.at,
@@ -110,6 +133,7 @@ pub(crate) fn zone_in(place: &ZonePlace) -> Zone
         parity: place.parity,
         sig: place.sig,
         block: place.block,
+        byte_order: byte_order_in(place.byte_order),
     }
 }
 
@@ -155,5 +179,5 @@ fn is_valid(zone: &Zone) -> bool
 pub(crate) fn is_place(place: &ZonePlace) -> bool
     ensures { IsTrue result ↔ IsPlace place.now }
 {
-    place.kind <= 3 && is_valid(&zone_in(place))
+    place.kind <= 3 && place.byte_order <= 1 && is_valid(&zone_in(place))
 }

@@ -9,7 +9,7 @@ use store_steps::{Given, Store};
 use zone_boot::BootStore;
 
 /// A word, or bytes that are stored one by one, rising, from `place` on. `what` is 0 for a word: the first four of
-/// `bytes`, which are those of `word`, at once; 1 for `len` bytes of the line and 2 for `len` bytes of the payload,
+/// `bytes`, which are those of `word`, the lowest first, at once; 1 for `len` bytes of the line and 2 for `len` bytes of the payload,
 /// those from `from` on; and 3 for the first `len` of `bytes`. A place is counted from the zone's begin.
 #[repr(C)]
 #[derive(Clone, Copy)]
@@ -45,11 +45,11 @@ impl StoreRow {
         self.from = store.from;
         self.place = store.place;
         self.len = store.len;
-        self.word = store.word;
+        self.word = store.byte_order.turned(store.word);
         match store.given {
             Given::Word => {
                 self.what = 0;
-                self.bytes[..4].copy_from_slice(&store.word.to_le_bytes());
+                self.bytes[..4].copy_from_slice(&self.word.to_le_bytes());
             }
             Given::Line => self.what = 1,
             Given::Payload => self.what = 2,
@@ -77,12 +77,12 @@ impl StoreRow {
     {
         self.from = 0;
         self.place = store.place;
-        self.word = store.word;
+        self.word = store.byte_order.turned(store.word);
         match store.given {
             zone_boot::Given::Word => {
                 self.what = 0;
                 self.len = 4;
-                self.bytes[..4].copy_from_slice(&store.word.to_le_bytes());
+                self.bytes[..4].copy_from_slice(&self.word.to_le_bytes());
             }
             zone_boot::Given::Bytes => {
                 let bytes = store.bytes.as_slice();

@@ -10,8 +10,7 @@ ghost use Rattle.rs_decode.specs.Decoding.{decoded_by, fixes_by, IsExcess};
 ghost use Rattle.zone_spec.specs.Zones.{IsValidZone};
 ghost use Rattle.zone_spec.specs.Parts.{Header, Block, part_at, part_len, part_parity_at, part_bytes, part_word};
 ghost use Rattle.zone_spec.specs.Parts.{words_in};
-ghost use Rattle.std.specs.Int.{from_le_bytes};
-ghost use Rattle.std.proofs.Common.{w32};
+ghost use Rattle.zone_spec.specs.WordBytes.{word_bytes};
 ghost use Rattle.zone_spec.specs.PartReadings.{part_reading, words_read};
 ghost use Rattle.prz_ecc.specs.Outcomes.{outcome, part_word_fixes, CountsAre, IsPartExcess};
 
@@ -20,7 +19,7 @@ use rs_decode::{decode_by, decode_excess, excess_pair_by};
 pub use rs_decode::{Decoded, Fix};
 use rs_encode::{Parity, parity_by};
 use std::marker::Model;
-use zone_spec::{Words, Zone};
+use zone_spec::{ByteOrder, Words, Zone};
 
 /// What a header reads.
 #[derive(Clone, Copy, Debug, PartialEq, Eq)]
@@ -87,23 +86,27 @@ fn copy(bytes: &[u8], out: &mut ArrayVec<u8, 255>)
     let _room = out.try_extend_from_slice(bytes);
 }
 
-/// The words in a header's 12 bytes.
-pub fn words_of(bytes: &[u8]) -> Words
+/// The words in a header's 12 bytes, each in this order of its bytes.
+pub fn words_of(order: ByteOrder, bytes: &[u8]) -> Words
     requires { length bytes.now ≡ 12 }
-    ensures { result ≡ words_in bytes.now }
+    ensures { result ≡ words_in order bytes.now }
 {
     Words {
-        sig: word_at(&bytes[0..4]),
-        start: word_at(&bytes[4..8]),
-        size: word_at(&bytes[8..12]),
+        sig: order.word(&bytes[0..4]),
+        start: order.word(&bytes[4..8]),
+        size: order.word(&bytes[8..12]),
     }
 }
 
-fn word_at(bytes: &[u8]) -> u32
-    requires { length bytes.now ≡ 4 }
-    ensures { result ≡ from_le_bytes w32 bytes.now }
+/// The header's 12 bytes of these words, each in this order of its bytes.
+pub fn bytes_of(order: ByteOrder, words: Words) -> ArrayVec<u8, 12>
+    ensures { result.items ≡ word_bytes order words.sig ++ word_bytes order words.start ++ word_bytes order words.size }
 {
-    u32::from_le_bytes([bytes[0], bytes[1], bytes[2], bytes[3]])
+    let mut bytes: ArrayVec<u8, 12> = ArrayVec::new();
+    let _room = bytes.try_extend_from_slice(&order.bytes(words.sig));
+    let _room = bytes.try_extend_from_slice(&order.bytes(words.start));
+    let _room = bytes.try_extend_from_slice(&order.bytes(words.size));
+    bytes
 }
 
 /// The owner of the table for a zone's parts, which is none where the zone has no parity. It holds some 4 KiB; a caller
@@ -266,7 +269,7 @@ pub fn read_header(
     let par = bytes_at(image, place.parity_at, zone.parity);
     let outcome = correct(table, &mut out, par, fixes);
     HeaderReading {
-        words: words_of(out.as_slice()),
+        words: words_of(zone.byte_order, out.as_slice()),
         outcome,
     }
 }

@@ -1,7 +1,6 @@
 // The stores of a boot in a zone: those that zone_boot hands out are made, up to a limit.
 ghost use Rattle.std.specs.Prelude.{◌≡◌, ◌+◌, ◌-◌, ◌*◌, ◌≤◌, ◌<◌, ◌^◌, ◌++◌, ℕ, List, [], length, min, take, drop};
 ghost use Rattle.std.specs.Prelude.{if◌then◌else◌};
-ghost use Rattle.std.specs.Int.{to_le_bytes};
 ghost use Rattle.std.proofs.Common.{w32};
 ghost use Rattle.zone_spec.specs.Zones.{IsValidZone};
 ghost use Rattle.zone_spec.specs.Reading.{zone_reading};
@@ -21,7 +20,7 @@ ghost use Rattle.prz_read.specs.Sources.{unturned, HasBlock, IsFixing, IsRead, r
 use crate::reading::{Reading, keeps};
 use crate::span_parts::read_block;
 use arrayvec::ArrayVec;
-use prz_ecc::{Coder, Fix};
+use prz_ecc::{Coder, Fix, bytes_of};
 use prz_region::{Span, Spans};
 use zone_boot::{Boot, BootStore, Given, Phase};
 use zone_spec::{State, Words, Zone};
@@ -69,16 +68,6 @@ fn copy_of(bytes: &[u8]) -> ArrayVec<u8, 255>
     out
 }
 
-fn bytes_of(words: Words) -> ArrayVec<u8, 12>
-    ensures { result.items ≡ to_le_bytes w32 words.sig ++ to_le_bytes w32 words.start ++ to_le_bytes w32 words.size }
-{
-    let mut bytes: ArrayVec<u8, 12> = ArrayVec::new();
-    let _room = bytes.try_extend_from_slice(&words.sig.to_le_bytes());
-    let _room = bytes.try_extend_from_slice(&words.start.to_le_bytes());
-    let _room = bytes.try_extend_from_slice(&words.size.to_le_bytes());
-    bytes
-}
-
 /// Appends the bytes from `from` on, as long as there are fewer than `most`.
 fn push_piece(out: &mut ArrayVec<u8, 128>, bytes: &[u8], from: usize, most: usize)
     requires most { most ≤ 128 }
@@ -117,7 +106,7 @@ fn make(out: &BootStore, spans: &mut Spans, i: u32, left: u64)
     match out.given {
         Given::Word => {
             if left > 0 {
-                spans.store_word(i, out.place, out.word);
+                spans.store_word(i, out.place, out.byte_order, out.word);
             }
         }
         Given::Bytes => {
@@ -156,7 +145,10 @@ fn hand_out(
 {
     let image = span.bytes();
     match boot.phase {
-        Phase::Header => boot.fix_header(image, bytes_of(reading.words).as_slice(), out),
+        Phase::Header => {
+            let reads = bytes_of(boot.zone.byte_order, reading.words);
+            boot.fix_header(image, reads.as_slice(), out)
+        }
         Phase::Blocks => {
             if boot.block < boot.count {
                 let start = reading.words.start;

@@ -11,6 +11,7 @@ use Rattle.zone_spec.specs.declared.Kind.TheVariants.{Dump}
 use Rattle.zone_spec.specs.Layouts.{zones_end}
 use Rattle.prz_region.specs.Chain.{AreSideBySide}
 use Rattle.prz_region.proofs.Chains.{slice_range-at}
+use Rattle.zone_spec.specs.declared.params.ByteOrder.TheVariants.{Little}
 
 -- what a list of zones reads behind its end
 abbrev pub no_zone : Zone
@@ -23,6 +24,7 @@ no_zone = record {
   parity = 0;
   sig = 0;
   block = 0;
+  byte_order = Little;
 }
 
 -- the i-th zone

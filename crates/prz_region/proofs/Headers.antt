@@ -1,14 +1,15 @@
 -- Words of a header, and places in a row
 use Rattle.std.proofs.Common.{◌≡◌, ℕ, suc, ◌+◌, ◌-◌, ◌<◌, ◌≤◌, List, [], ◌∷◌, w32, sym, ap, arith}
 use Rattle.std.specs.Prelude.{slice_range}
-use Rattle.std.specs.Int.{from_le_bytes}
 use Rattle.std.specs.List.{range_with_len}
 use Rattle.list_laws.proofs.Slices.{slice_range-take}
 use Rattle.list_laws.proofs.Ranges.{range_with_len-first}
+use Rattle.zone_spec.specs.declared.params.ByteOrder.{ByteOrder}
+use Rattle.zone_spec.specs.WordBytes.{word_of}
 
-pub word_of : (xs : List ℕ) (at : ℕ) → at + 4 ≤ 12 → from_le_bytes w32 (slice_range xs at (at + 4))
-    ≡ from_le_bytes w32 (slice_range (slice_range xs 0 12) at (at + 4))
-word_of xs at le = ap (λ (bs : List ℕ). from_le_bytes w32 bs)
+pub front_word : (order : ByteOrder) (xs : List ℕ) (at : ℕ) → at + 4 ≤ 12 → word_of order (slice_range xs at (at + 4))
+    ≡ word_of order (slice_range (slice_range xs 0 12) at (at + 4))
+front_word order xs at le = ap (λ (bs : List ℕ). word_of order bs)
     (sym (slice_range-take 12 at (at + 4) xs (omega arith) le))
 
 pub range_with_len-none : (a b : ℕ) → b ≤ a → range_with_len a (b - a) ≡ []

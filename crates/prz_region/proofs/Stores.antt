@@ -6,9 +6,10 @@ use mathlib.Core.List.{append-nil}
 use Rattle.std.proofs.lemmas.List.{drop-set-lt, drop_more}
 use Rattle.std.proofs.Math.ListN.{drop_of_length-le}
 use Rattle.std.proofs.Math.Seq.{take-suc-set}
-use Rattle.std.specs.Int.{to_le_bytes}
 use Rattle.zone_spec.specs.Parts.{AreBytes}
 use Rattle.zone_spec.specs.Stores.{put, after_stores, byte_stores}
+use Rattle.zone_spec.specs.declared.params.ByteOrder.{ByteOrder}
+use Rattle.zone_spec.specs.WordBytes.{word_bytes}
 
 -- bytes put at a place within the list
 pub put-parts : (xs : List ℕ) (at : ℕ) (bs : List ℕ) → at + length bs ≤ length xs
@@ -44,12 +45,12 @@ pub AreBytes-one : (b : ℕ) → b < 256 → AreBytes (b ∷ [])
 AreBytes-one b lt zero = lt
 AreBytes-one b lt (suc i) = lit< tt
 
-pub AreBytes-word : (n : ℕ) → AreBytes (to_le_bytes w32 n)
-AreBytes-word n zero = omega arith
-AreBytes-word n (suc zero) = omega arith
-AreBytes-word n (suc (suc zero)) = omega arith
-AreBytes-word n (suc (suc (suc zero))) = omega arith
-AreBytes-word n (suc (suc (suc (suc i)))) = omega arith
+pub AreBytes-word : (order : ByteOrder) (n : ℕ) → AreBytes (word_bytes order n)
+AreBytes-word order n zero = omega arith
+AreBytes-word order n (suc zero) = omega arith
+AreBytes-word order n (suc (suc zero)) = omega arith
+AreBytes-word order n (suc (suc (suc zero))) = omega arith
+AreBytes-word order n (suc (suc (suc (suc i)))) = omega arith
 
 -- the four bytes of one list and the four of another
 pub AreBytes-eight : (xs ys : List ℕ) → AreBytes xs → AreBytes ys → AreBytes (get_or xs 0 0 ∷ get_or xs 1 0

@@ -1,21 +1,21 @@
 // The words of a zone's header as they stand, and the places of a ring's log in their order.
-ghost use Rattle.std.specs.Prelude.{◌≡◌, ◌≤◌, ◌↔◌, ℕ, length, IsTrue};
+ghost use Rattle.std.specs.Prelude.{◌≡◌, ◌≤◌, ◌↔◌, ℕ, length, slice_range, IsTrue};
 ghost use Rattle.std.specs.Iterator.{YieldsFirst, item_count};
-ghost use Rattle.zone_spec.specs.Parts.{standing_words};
+ghost use Rattle.zone_spec.specs.Parts.{words_in};
 ghost use Rattle.zone_spec.specs.Reading.{IsRing, log_places};
 
 use crate::spans::Span;
 use std::iter::FusedIterator;
 use std::marker::Model;
-use zone_spec::Words;
+use zone_spec::{ByteOrder, Words};
 
 /// What the words of a header say (`fs/pstore/ram_core.c`).
 pub trait RingWords {
     /// Words that are a ring of a capacity.
     ghost is_ring_of: { Self → ℕ → Type 0 };
 
-    /// The words that stand in the first 12 bytes of a zone.
-    fn read(span: &Span) -> Self
+    /// The words that stand in the first 12 bytes of a zone, in this order of their bytes.
+    fn read(order: ByteOrder, span: &Span) -> Self
         requires { 12 ≤ length span.now };
 
     /// Tells whether start is at most size, and size at most `cap`.
@@ -29,15 +29,15 @@ pub trait RingWords {
 impl RingWords for Words {
     ghost is_ring_of = { λ w cap. IsRing w cap };
 
-    #[tactic(auto, using(crate::proofs::Headers::word_of))]
-    fn read(span: &Span) -> Words
+    #[tactic(auto, using(crate::proofs::Headers::front_word))]
+    fn read(order: ByteOrder, span: &Span) -> Words
         requires { 12 ≤ length span.now }
-        ensures { result ≡ standing_words span.now }
+        ensures { result ≡ words_in order (slice_range span.now 0 12) }
     {
         Words {
-            sig: span.word(0),
-            start: span.word(4),
-            size: span.word(8),
+            sig: span.word(order, 0),
+            start: span.word(order, 4),
+            size: span.word(order, 8),
         }
     }
 

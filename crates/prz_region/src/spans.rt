@@ -1,7 +1,7 @@
 // A region, and the spans that it is cut into.
 ghost use Rattle.std.specs.Prelude.{◌≡◌, ℕ, ◌+◌, ◌<◌, ◌≤◌, ◌++◌, ◌∷◌, [], List, length, drop, slice_index, slice_range};
 ghost use Rattle.std.specs.Prelude.{slice_set, Some, MatchResult};
-ghost use Rattle.std.specs.Int.{to_le_bytes, from_le_bytes};
+ghost use Rattle.zone_spec.specs.WordBytes.{word_of, word_bytes};
 ghost use Rattle.std.proofs.Common.{w32};
 ghost use Rattle.std.specs.List.{concat};
 ghost use Rattle.core.specs.Mem.Slots.{IsFull, slots_items};
@@ -16,7 +16,7 @@ use outside::Bytes;
 use ramoops_layout::types::Layout;
 use std::alloc::{AllocError, Global};
 use std::marker::Model;
-use zone_spec::Zone;
+use zone_spec::{ByteOrder, Zone};
 
 /// A zone's bytes in a region's block, as they are lent for reading.
 #[repr(C)]
@@ -65,14 +65,13 @@ impl Span {
         self.bytes()[at as usize]
     }
 
-    /// The 32-bit little-endian word in the four bytes from `at` on.
-    pub fn word(&self, at: u32) -> u32
+    /// The word in the four bytes from `at` on, in this order of its bytes.
+    pub fn word(&self, order: ByteOrder, at: u32) -> u32
         requires { at + 4 ≤ length self.now }
-        ensures { result ≡ from_le_bytes w32 (slice_range self.now at (at + 4)) }
+        ensures { result ≡ word_of order (slice_range self.now at (at + 4)) }
     {
         let at = at as usize;
-        let bytes = &self.bytes()[at..at + 4];
-        u32::from_le_bytes([bytes[0], bytes[1], bytes[2], bytes[3]])
+        order.word(&self.bytes()[at..at + 4])
     }
 }
 
@@ -194,24 +193,24 @@ impl Spans {
         self.store_array(i, at, [b]);
     }
 
-    /// Stores a 32-bit word, little-endian, from `at` of span `i` on, in one store.
-    pub fn store_word(&mut self, i: u32, at: u32, w: u32)
+    /// Stores a word, in this order of its bytes, from `at` of span `i` on, in one store.
+    pub fn store_word(&mut self, i: u32, at: u32, order: ByteOrder, w: u32)
         requires span { i < length self.old.spans }
         requires place { at + 4 ≤ length (span self.old i) }
-        ensures { self.new ≡ stored self.old i (word_store at w) }
+        ensures { self.new ≡ stored self.old i (word_store order at w) }
     {
-        self.store_array(i, at, w.to_le_bytes());
+        self.store_array(i, at, order.bytes(w));
     }
 
-    /// Stores two 32-bit words, little-endian, from `at` of span `i` on, in one store of eight bytes.
-    pub fn store_pair(&mut self, i: u32, at: u32, first: u32, second: u32)
+    /// Stores two words, each in this order of its bytes, from `at` of span `i` on, in one store of eight bytes.
+    pub fn store_pair(&mut self, i: u32, at: u32, order: ByteOrder, first: u32, second: u32)
         requires span { i < length self.old.spans }
         requires place { at + 8 ≤ length (span self.old i) }
         ensures { self.new ≡ stored self.old i
-            (record { place = at; bytes = to_le_bytes w32 first ++ to_le_bytes w32 second } ∷ []) }
+            (record { place = at; bytes = word_bytes order first ++ word_bytes order second } ∷ []) }
     {
-        let [a, b, c, d] = first.to_le_bytes();
-        let [e, f, g, h] = second.to_le_bytes();
+        let [a, b, c, d] = order.bytes(first);
+        let [e, f, g, h] = order.bytes(second);
         self.store_array(i, at, [a, b, c, d, e, f, g, h]);
     }
 

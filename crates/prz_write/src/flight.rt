@@ -45,10 +45,10 @@ impl Flight {
     pub fn begin(zone: Zone, span: &Span, call: Call) -> Flight
         requires valid { IsValidZone zone }
         requires len { length span.now ≡ zone.size }
-        requires ring { IsRing (standing_words span.now) zone.cap }
-        requires is_open { IsOpenFor (call_seen call) (standing_words span.now) zone.cap }
+        requires ring { IsRing (standing_words zone span.now) zone.cap }
+        requires is_open { IsOpenFor (call_seen call) (standing_words zone span.now) zone.cap }
         ensures zone { result.zone ≡ zone }
-        ensures words { result.words ≡ standing_words span.now }
+        ensures words { result.words ≡ standing_words zone span.now }
         ensures call { result.call ≡ call_seen call }
         ensures made { result.made ≡ 0 }
         ensures stands { StandsFor result span.now span.now }

@@ -33,11 +33,11 @@ impl Progress {
     pub fn begin(zone: Zone, span: &Span, call: Call) -> Progress
         requires valid { IsValidZone zone }
         requires len { length span.now ≡ zone.size }
-        requires ring { IsRing (standing_words span.now) zone.cap }
-        requires is_open { IsOpenFor (call_seen call) (standing_words span.now) zone.cap }
+        requires ring { IsRing (standing_words zone span.now) zone.cap }
+        requires is_open { IsOpenFor (call_seen call) (standing_words zone span.now) zone.cap }
         ensures held { IsHeld result }
         ensures zone { result.steps.zone ≡ zone }
-        ensures words { result.steps.words ≡ standing_words span.now }
+        ensures words { result.steps.words ≡ standing_words zone span.now }
         ensures call { call_seen result.call ≡ call_seen call }
         ensures made { result.steps.made ≡ 0 }
         ensures stands { StandsFor (seen result) span.now span.now }

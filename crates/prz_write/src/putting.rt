@@ -21,7 +21,7 @@ pub(crate) fn make(store: &Store, line: &[u8], payload: &[u8], spans: &mut Spans
     ensures { spans.new ≡ stored spans.old i (handed store.now line.now payload.now) }
 {
     match store.given {
-        Given::Word => spans.store_word(i, store.place, store.word),
+        Given::Word => spans.store_word(i, store.place, store.byte_order, store.word),
         Given::Line => spans.store_bytes(i, store.place, part_of(line, store.from, store.len)),
         Given::Payload => spans.store_bytes(
             i,

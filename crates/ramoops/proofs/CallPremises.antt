@@ -136,7 +136,7 @@ can_begin : (v : LiveSeen) (i : ℕ) (ask : Ask) (z : Zone) (bytes told : List �
     → place_asked v.layout v.cursor ask ≡ Some i → slice_get v.layout i ≡ Some z
     → IsRingForm z bytes told → CanBegin z bytes (call_of ask)
 can_begin v i (Append name payload) z bytes told valid fit place h ring = (
-  open_ring z.name.kind (standing_words bytes) z.cap (ring_kind v.layout (zone_place v.layout name) i z place h)
+  open_ring z.name.kind (standing_words z bytes) z.cap (ring_kind v.layout (zone_place v.layout name) i z place h)
       ring.is_open,
   fit,
 )

@@ -35,10 +35,10 @@ use Rattle.ramoops.proofs.StepStates.{held_here}
 -- ---- a blank zone
 
 open_empty : (z : Zone) (bytes told : List ℕ) → IsValidZone z → IsRingForm z bytes told → told ≡ []
-    → IsOpen (standing_words bytes) z.cap
+    → IsOpen (standing_words z bytes) z.cap
 open_empty z bytes told valid ring none =
-    let size : (standing_words bytes).size ≡ 0 = ring.told_length ∙ ap length none in
-    let below : (standing_words bytes).start ≤ (standing_words bytes).size = ring.ring.0 in
+    let size : (standing_words z bytes).size ≡ 0 = ring.told_length ∙ ap length none in
+    let below : (standing_words z bytes).start ≤ (standing_words z bytes).size = ring.ring.0 in
     (omega (arith, size, below, valid.cap), λ h. omega (arith, size, below))
 
 -- what an append needs of its zone

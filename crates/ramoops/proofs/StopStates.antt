@@ -39,11 +39,11 @@ use Rattle.ramoops.proofs.Begun.{here}
 use Rattle.ramoops.proofs.CallPremises.{own, over}
 
 -- the words before a cut are those of its header
-header_at : (z : Zone) (x : List ℕ) → 12 ≤ length x → words_in (part_word z x Header) ≡ standing_words x
+header_at : (z : Zone) (x : List ℕ) → 12 ≤ length x → words_in z.byte_order (part_word z x Header) ≡ standing_words z x
 unfolding part_bytes
 header_at z x long =
     let n : length (part_bytes z x Header) ≡ 12 = length-slice_range x 0 12 long in
-    words_same _ _ (λ i h. word_left z x Header i (omega (arith, n, h))
+    words_same _ _ _ (λ i h. word_left z x Header i (omega (arith, n, h))
     ∙ sym (get_or-slice_range x 0 12 i (omega (arith, h))))
 
 -- a flight's cut shows what the flight tells
@@ -53,15 +53,15 @@ module _ (z : Zone) (bytes : List ℕ) (seen : Flying) (f : Flight) (long : 12 �
   before_long = (let a = ap length s.image.underway.image in
       let b = length-after_stores f.image s.image.underway.done in omega (arith, a, b, long))
 
-  words : seen.words ≡ words_in (part_word z f.image Header)
-  words = sym s.image.words ∙ sym (header_at z f.image before_long)
+  words : seen.words ≡ words_in z.byte_order (part_word z f.image Header)
+  words = sym s.image.words ∙ ap (λ (y : Zone). standing_words y f.image) s.zone ∙ sym (header_at z f.image before_long)
 
   stages : {X : Type 0} (P : Zone → List Stage → X) → P seen.zone (call_stages seen.zone seen.words seen.call)
-      ≡ P z (call_stages z (words_in (part_word z f.image Header)) f.call)
+      ≡ P z (call_stages z (words_in z.byte_order (part_word z f.image Header)) f.call)
   stages P =
       ap (λ (y : Zone). P y (call_stages y seen.words seen.call)) s.zone
       ∙ ap (λ (w : Words). P z (call_stages z w seen.call)) words
-      ∙ ap (λ (c : Call). P z (call_stages z (words_in (part_word z f.image Header)) c)) s.call
+      ∙ ap (λ (c : Call). P z (call_stages z (words_in z.byte_order (part_word z f.image Header)) c)) s.call
 
   pub flight_shows : cut_of_flight seen ≡ shown_cut z (cut_of z f)
   unfolding shown_cut
@@ -90,21 +90,21 @@ module _ (z : Zone) (bytes : List ℕ) (seen : Flying) (f : Flight) (long : 12 �
       ∙ ap (λ (ps : List Pair). record {
         kind = kind_of f.call;
         made = f.made;
-        total = sum_by (stage_count z) (call_stages z (words_in (part_word z f.image Header)) f.call);
+        total = sum_by (stage_count z) (call_stages z (words_in z.byte_order (part_word z f.image Header)) f.call);
         pairs = ps;
         runs =
             touched_runs seen;
       })
       (stages (λ y gs. pairs_from (pair_of seen.words) gs)
-      ∙ ap (λ (w : Words). pairs_from (pair_of w) (call_stages z (words_in (part_word z f.image Header)) f.call))
+      ∙ ap (λ (w : Words). pairs_from (pair_of w) (call_stages z (words_in z.byte_order (part_word z f.image Header)) f.call))
       words)
       ∙ ap (λ (rs : List (ℕ × ℕ)). record {
         kind = kind_of f.call;
         made = f.made;
-        total = sum_by (stage_count z) (call_stages z (words_in (part_word z f.image Header)) f.call);
+        total = sum_by (stage_count z) (call_stages z (words_in z.byte_order (part_word z f.image Header)) f.call);
         pairs =
-            pairs_from (pair_of (words_in (part_word z f.image Header)))
-            (call_stages z (words_in (part_word z f.image Header)) f.call);
+            pairs_from (pair_of (words_in z.byte_order (part_word z f.image Header)))
+            (call_stages z (words_in z.byte_order (part_word z f.image Header)) f.call);
         runs = rs;
       })
       (stages (λ y gs. runs_of (filter (λ b. list_any (λ c. c == b) (touched_by y gs)) (range_with_len 0 y.blocks))))

@@ -16,6 +16,8 @@ pub use finding::{Found, find};
 pub use grammar_spec::ParamFault;
 pub use laying::{layout, list_zones};
 pub use numbers::number;
-pub use params::{DEFAULTS, given, order_at, parity_given, read_words, read_words_over};
-pub use words::Keys;
-pub use zone_spec::{Kind, LayoutFault, Order, Params, Zone, ZoneName};
+pub use params::{
+    DEFAULTS, byte_order_at, given, order_at, parity_given, read_words, read_words_over,
+};
+pub use words::{Choice, Keys};
+pub use zone_spec::{ByteOrder, Kind, LayoutFault, Order, Params, Zone, ZoneName};

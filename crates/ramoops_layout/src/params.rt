@@ -3,12 +3,12 @@ ghost use Rattle.std.specs.Prelude.{◌≡◌, ℕ, codes, unwrap_or};
 ghost use Rattle.std.specs.Option.{option_map};
 ghost use Rattle.grammar_spec.specs.Words.{texts};
 ghost use Rattle.grammar_spec.specs.ZoneWords.{given, parity_of, parity_given, memory_of, params_by, read_by, read_of};
-ghost use Rattle.grammar_spec.specs.ZoneWords.{with_sizes, with_parities, with_order, order_at as order_of};
+ghost use Rattle.grammar_spec.specs.ZoneWords.{with_sizes, with_parities, with_order, order_at as order_of, byte_order_at as byte_order_of};
 
-use crate::Keys;
 use crate::rows::{MOST_MEMORY, rounded};
+use crate::{Choice, Keys};
 use grammar_spec::ParamFault;
-use zone_spec::{Order, Params};
+use zone_spec::{ByteOrder, Order, Params};
 
 const KEYS: Keys = Keys {
     prefix: "ramoops.",
@@ -27,9 +27,16 @@ const KEYS: Keys = Keys {
         "ecc_ftrace",
         "ecc_pmsg",
         "order",
+        "byte_order",
     ],
-    choice: "order",
-    choices: &["console,ftrace,pmsg", "console,pmsg,ftrace"],
+    first: Choice {
+        key: "order",
+        texts: &["console,ftrace,pmsg", "console,pmsg,ftrace"],
+    },
+    second: Choice {
+        key: "byte_order",
+        texts: &["little", "big"],
+    },
 };
 
 /// What the module takes where no word is given.
@@ -48,6 +55,7 @@ pub const DEFAULTS: Params = Params {
     ecc_ftrace: 0,
     ecc_pmsg: 0,
     order: Order::FtracePmsg,
+    byte_order: ByteOrder::Little,
 };
 
 // The number that the words give a key.
@@ -85,12 +93,33 @@ pub fn order_at(place: u32) -> Order
     }
 }
 
+/// The order of bytes of this number: 0 is little-endian, any other big-endian.
+pub fn byte_order_at(place: u32) -> ByteOrder
+    ensures { result ≡ byte_order_of place }
+{
+    if place == 0 {
+        ByteOrder::Little
+    } else {
+        ByteOrder::Big
+    }
+}
+
 // The order that the words give.
 fn order(words: &[String], absent: Order) -> Order
     ensures { result ≡ unwrap_or (option_map order_of (given (texts words.now) (codes "order"))) absent }
 {
     match KEYS.given(words, "order") {
         Some(place) => order_at(place),
+        None => absent,
+    }
+}
+
+// The order of bytes that the words give.
+fn byte_order(words: &[String], absent: ByteOrder) -> ByteOrder
+    ensures { result ≡ unwrap_or (option_map byte_order_of (given (texts words.now) (codes "byte_order"))) absent }
+{
+    match KEYS.given(words, "byte_order") {
+        Some(place) => byte_order_at(place),
         None => absent,
     }
 }
@@ -155,6 +184,7 @@ fn with_order(words: &[String], absent: &Params) -> Params
 {
     Params {
         order: order(words, absent.order),
+        byte_order: byte_order(words, absent.byte_order),
         ..*absent
     }
 }

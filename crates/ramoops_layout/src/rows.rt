@@ -221,6 +221,7 @@ pub fn zone_at(p: &Params, kind: Kind, size: u64, index: u64, at: u64) -> Zone
         parity: parity as u32,
         sig: SIGNATURE ^ tag(p, kind),
         block: p.block as u32,
+        byte_order: p.byte_order,
     }
 }
 

@@ -3,10 +3,18 @@ ghost use Rattle.std.specs.Prelude.{◌≡◌, ◌<◌, ◌^◌, ◌==◌, [], f
 ghost use Rattle.std.specs.Borrow.{Bor};
 ghost use Rattle.std.specs.Option.{option_copied};
 ghost use Rattle.std.specs.List.{list_any};
-ghost use Rattle.grammar_spec.specs.Words.{value_text, value_of, word_fault, first_fault, given, texts, IsSplit};
+ghost use Rattle.grammar_spec.specs.Words.{text_place, value_text, value_of, word_fault, first_fault, given, texts, IsSplit};
 
 use crate::ParamFault;
 use crate::numbers::{behind, number};
+
+/// A key whose value is one of these texts; none where the key is empty.
+#[derive(Clone, Copy)]
+pub struct Choice {
+    pub key: &'static str,
+    pub texts: &'static [&'static str],
+    ghost few: { length texts.now < 2 ^ 32 },
+}
 
 fn place_of(choices: &[&str], text: &str) -> Option<usize>
     ensures place { result ≡ position (λ (choice : Bor (List ℕ)). bytes_eq choice.now text.now) choices.now }
@@ -21,11 +29,24 @@ pub struct Keys {
     /// What may stand in front of each key; empty where nothing may.
     pub prefix: &'static str,
     pub names: &'static [&'static str],
-    /// The key whose value is one of the choices; all others' are numbers. Empty where there is none.
-    pub choice: &'static str,
-    pub choices: &'static [&'static str],
+    /// The keys whose values are texts; all others' are numbers.
+    pub first: Choice,
+    pub second: Choice,
     ghost few: { length names.now < 2 ^ 32 },
-    ghost few_choices: { length choices.now < 2 ^ 32 },
+}
+
+impl Choice {
+    ghost use Rattle.ramoops_layout.specs.Keys.{choice_of};
+
+    // The place of a text among its own.
+    fn place(&self, text: &str) -> Option<u32>
+        ensures { result ≡ text_place (choice_of self.now) text.now }
+    {
+        match place_of(self.texts, text) {
+            Some(place) => Some(place as u32),
+            None => None,
+        }
+    }
 }
 
 impl Keys {
@@ -62,22 +83,14 @@ impl Keys {
         None
     }
 
-    // The place of a text among the choices.
-    fn choice_place(&self, text: &str) -> Option<u32>
-        ensures { result ≡ position (λ choice. bytes_eq choice text.now) (table_of self.now).choices }
-    {
-        match place_of(self.choices, text) {
-            Some(place) => Some(place as u32),
-            None => None,
-        }
-    }
-
     // The number that a key's value writes.
     fn value_number(&self, key: &str, text: &str) -> Option<u32>
         ensures { result ≡ value_of (table_of self.now) key.now text.now }
     {
-        if key == self.choice {
-            self.choice_place(text)
+        if key == self.first.key {
+            self.first.place(text)
+        } else if key == self.second.key {
+            self.second.place(text)
         } else {
             number(text)
         }

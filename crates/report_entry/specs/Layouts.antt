@@ -45,6 +45,7 @@ unsought words =
     else if gives words (codes "ecc_console") then Some 2
     else if gives words (codes "ecc_ftrace") then Some 3
     else if gives words (codes "ecc_pmsg") then Some 4
+    else if gives words (codes "byte_order") then Some 5
     else None
 
 -- what is known, and this of the memory's size

@@ -33,7 +33,7 @@ pub enum NoLayouts {
     /// The first faulty word, counted from 0.
     Word(ParamFault),
     /// A key that a layout which is looked for has not: its number in `block_size`, `ecc_dump`, `ecc_console`,
-    /// `ecc_ftrace`, `ecc_pmsg`, from 0.
+    /// `ecc_ftrace`, `ecc_pmsg`, `byte_order`, from 0.
     Unsought(u8),
     /// The parameters have no layout.
     Layout(LayoutFault),
@@ -61,11 +61,14 @@ fn unsought(words: &[String]) -> Option<u8>
     if given(words, "ecc_pmsg").is_some() {
         return Some(4);
     }
+    if given(words, "byte_order").is_some() {
+        return Some(5);
+    }
     None
 }
 
 /// What words say of a layout that is looked for in so much memory, if that is known, or the first fault. The layouts
-/// that are looked through have blocks of 128 bytes and one parity, so keys that say otherwise are refused.
+/// that are looked through have blocks of 128 bytes, one parity and little-endian words, so keys that say otherwise are refused.
 fn sought(words: &[String], mem: Option<u64>) -> Result<Known, NoLayouts>
     ensures { MatchResult result (IsKnown words.now mem) (IsNotSought words.now) }
 {

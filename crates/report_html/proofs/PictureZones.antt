@@ -17,6 +17,7 @@ use Rattle.report_html.specs.Pieces.{Part, Words}
 use Rattle.report_html.proofs.PartSums.{joined}
 use Rattle.report_html.specs.Pictures.{strip_opening, header_parts, runs, run_parts, unused_parts, parity_parts}
 use Rattle.report_html.specs.Pictures.{strip_parts}
+use Rattle.zone_spec.specs.declared.params.ByteOrder.TheVariants.{Little}
 
 -- ---- one zone
 
@@ -52,6 +53,7 @@ no_zone = record {
   parity = 0;
   sig = 0;
   block = 0;
+  byte_order = Little;
 }
 
 -- the reading beside a zone

@@ -1,6 +1,6 @@
 // Reports of images, and what each format makes of them.
 use outside::Bytes;
-use ramoops_layout::{Order, Params, layout};
+use ramoops_layout::{ByteOrder, Order, Params, layout};
 use region_report::{Division, Report, report_of};
 use report_html::html;
 use report_json::json;
@@ -25,6 +25,7 @@ pub const BARE: Params = Params {
     ecc_ftrace: 0,
     ecc_pmsg: 0,
     order: Order::FtracePmsg,
+    byte_order: ByteOrder::Little,
 };
 
 /// A console of 4096 bytes, with so many bytes of parity.

@@ -18,6 +18,7 @@ use Rattle.report_tool.specs.declared.plan.Plan.{Plan}
 use Rattle.report_tool.specs.declared.tree.TreeFault.{TreeFault}
 use Rattle.report_tool.specs.declared.tree.TreeFault.TheVariants.{Memory, Tree, NoNode, Several, Word, NoCpus, Layout}
 use Rattle.report_tool.specs.Plans.{IsGiven}
+use Rattle.zone_spec.specs.declared.params.ByteOrder.TheVariants.{Little}
 
 -- the numbers of the node of this path, or of the only one
 abbrev pub numbers_found : Option Ramoops → Result Numbers TreeFault
@@ -50,6 +51,7 @@ params_said n = record {
   ecc_ftrace = n.ecc_size;
   ecc_pmsg = n.ecc_size;
   order = FtracePmsg;
+  byte_order = Little;
 }
 
 -- whether there is an ftrace zone for each processor (RAMOOPS_FLAG_FTRACE_PER_CPU), whose number no tree tells

@@ -14,7 +14,7 @@ use dtb::{DtbError, Fault, Node, Numbers, ramoops_nodes};
 use grammar_spec::ParamFault;
 use ramoops_layout::{LayoutError, given, read_words_over};
 use std::alloc::Global;
-use zone_spec::{LayoutFault, Order, Params};
+use zone_spec::{ByteOrder, LayoutFault, Order, Params};
 
 /// Why a device tree gives no plan.
 #[derive(Clone, Copy, Debug, PartialEq, Eq)]
@@ -87,6 +87,7 @@ fn params_said(n: &Numbers) -> Params
         ecc_ftrace: ecc,
         ecc_pmsg: ecc,
         order: Order::FtracePmsg,
+        byte_order: ByteOrder::Little,
     }
 }
 

@@ -2,12 +2,14 @@
 use Rattle.std.proofs.Common.{◌≡◌, ℕ, ◌+◌, ◌-◌, ◌%◌, ◌^◌, ◌<◌, ◌≤◌, min, Bool, true, false, cond, ◌==◌, List, [], ◌∷◌}
 use Rattle.std.proofs.Common.{◌++◌, length, take, drop, get_or, slice_range, refl, sym, ap, ◌∙◌, arith, get_or-drop}
 use Rattle.std.proofs.Common.{get_or-take, w32}
-use Rattle.std.proofs.lemmas.Nat.{from_le_bytes-to_le_bytes_4}
-use Rattle.std.specs.Int.{from_le_bytes, to_le_bytes}
+use Rattle.std.specs.Int.{from_le_bytes}
 use Rattle.zone_spec.specs.declared.Zone.{Zone}
+use Rattle.zone_spec.specs.declared.params.ByteOrder.{ByteOrder}
 use Rattle.zone_spec.specs.Stages.{Stage, StartWord, SizeWord, stage_stores, stores_in_turn}
 use Rattle.zone_spec.specs.Stores.{put, after_stores}
+use Rattle.word_laws.proofs.WordBytes.{word_of-word_bytes}
 use Rattle.ring_laws.proofs.Images.{after_stores-append, length-after_stores}
+use Rattle.zone_spec.specs.WordBytes.{turned, word_bytes, word_of}
 
 -- ---- stages
 
@@ -40,11 +42,11 @@ length-all_stages z (g ∷ gs) image = length-all_stages z gs (stage_image z g i
     ∙ length-after_stores image (stage_stores z g image)
 
 -- the header's words put by an append
-abbrev pub size_put : Bool → ℕ → List ℕ → List ℕ
-size_put full size image = cond full image (put image 8 (to_le_bytes w32 size))
+abbrev pub size_put : ByteOrder → Bool → ℕ → List ℕ → List ℕ
+size_put order full size image = cond full image (put image 8 (word_bytes order size))
 
 pub all_stages-size : (z : Zone) (full : Bool) (size : ℕ) (image : List ℕ)
-    → all_stages z (cond full [] (SizeWord size ∷ [])) image ≡ size_put full size image
+    → all_stages z (cond full [] (SizeWord size ∷ [])) image ≡ size_put z.byte_order full size image
 unfolding all_stages stage_stores after_stores
 all_stages-size z true size image = refl
 all_stages-size z false size image = refl
@@ -52,24 +54,24 @@ all_stages-size z false size image = refl
 -- the image after an append of these bytes
 abbrev pub appended : Zone → ℕ → ℕ → List ℕ → List ℕ → List ℕ
 appended z start size q image =
-    put (put (put (size_put (size == z.cap) (min z.cap (size + length q)) image) 4
-    (to_le_bytes w32 ((start + length q) % z.cap)))
+    put (put (put (size_put z.byte_order (size == z.cap) (min z.cap (size + length q)) image) 4
+    (word_bytes z.byte_order ((start + length q) % z.cap)))
     (12 + start) (take (z.cap - start) q)) (12 + 0) (drop (z.cap - start) q)
 
-pub start_last : (z : Zone) (x : List ℕ) (n : ℕ) → all_stages z (StartWord n ∷ []) x ≡ put x 4 (to_le_bytes w32 n)
+pub start_last : (z : Zone) (x : List ℕ) (n : ℕ) → all_stages z (StartWord n ∷ []) x ≡ put x 4 (word_bytes z.byte_order n)
 unfolding all_stages stage_stores after_stores
 start_last z x n = refl
 
 -- ---- the words
 
-pub from_le_bytes-same : (xs ys : List ℕ) → ((i : ℕ) → i < 4 → get_or xs i 0 ≡ get_or ys i 0)
-    → from_le_bytes w32 xs ≡ from_le_bytes w32 ys
-from_le_bytes-same xs ys h =
+pub word_of-bytes : (order : ByteOrder) (xs ys : List ℕ) → ((i : ℕ) → i < 4 → get_or xs i 0 ≡ get_or ys i 0)
+    → word_of order xs ≡ word_of order ys
+word_of-bytes order xs ys h = ap (turned order) (
     let e0 : get_or xs 0 0 ≡ get_or ys 0 0 = h 0 (omega arith) in
     let e1 : get_or xs 1 0 ≡ get_or ys 1 0 = h 1 (omega arith) in
     let e2 : get_or xs 2 0 ≡ get_or ys 2 0 = h 2 (omega arith) in
     let e3 : get_or xs 3 0 ≡ get_or ys 3 0 = h 3 (omega arith) in
-    cc
+    let same : from_le_bytes w32 xs ≡ from_le_bytes w32 ys = cc in same)
 
 -- a byte of the header's word at this place
 get_or-word : (image : List ℕ) (at i : ℕ) → at + 4 ≤ 12 → i < 4
@@ -81,16 +83,16 @@ get_or-word image at i h k =
     ∙ get_or-drop 0 image (at + i) 0
     ∙ ap (λ j. get_or image j 0) (let e : 0 + (at + i) ≡ at + i = omega arith in e)
 
-pub word_of-stored : (image : List ℕ) (at n : ℕ) → at + 4 ≤ 12 → n < 2 ^ 32
-    → ((i : ℕ) → i < 4 → get_or image (at + i) 0 ≡ get_or (to_le_bytes w32 n) i 0)
-    → from_le_bytes w32 (slice_range (slice_range image 0 12) at (at + 4)) ≡ n
-word_of-stored image at n h l same =
-    from_le_bytes-same _ (to_le_bytes w32 n) (λ i k. get_or-word image at i h k ∙ same i k)
-    ∙ from_le_bytes-to_le_bytes_4 n l
+pub word_of-stored : (order : ByteOrder) (image : List ℕ) (at n : ℕ) → at + 4 ≤ 12 → n < 2 ^ 32
+    → ((i : ℕ) → i < 4 → get_or image (at + i) 0 ≡ get_or (word_bytes order n) i 0)
+    → word_of order (slice_range (slice_range image 0 12) at (at + 4)) ≡ n
+word_of-stored order image at n h l same =
+    word_of-bytes order _ (word_bytes order n) (λ i k. get_or-word image at i h k ∙ same i k)
+    ∙ word_of-word_bytes order n l
 
-pub word_of-same : (image image' : List ℕ) (at : ℕ) → at + 4 ≤ 12
+pub word_of-same : (order : ByteOrder) (image image' : List ℕ) (at : ℕ) → at + 4 ≤ 12
     → ((i : ℕ) → i < 4 → get_or image (at + i) 0 ≡ get_or image' (at + i) 0)
-    → from_le_bytes w32 (slice_range (slice_range image 0 12) at (at + 4))
-    ≡ from_le_bytes w32 (slice_range (slice_range image' 0 12) at (at + 4))
-word_of-same image image' at h same =
-    from_le_bytes-same _ _ (λ i k. get_or-word image at i h k ∙ same i k ∙ sym (get_or-word image' at i h k))
+    → word_of order (slice_range (slice_range image 0 12) at (at + 4))
+    ≡ word_of order (slice_range (slice_range image' 0 12) at (at + 4))
+word_of-same order image image' at h same =
+    word_of-bytes order _ _ (λ i k. get_or-word image at i h k ∙ same i k ∙ sym (get_or-word image' at i h k))

@@ -2,7 +2,6 @@
 use Rattle.std.proofs.Common.{◌≡◌, ℕ, ◌+◌, ◌*◌, ◌/◌, ◌%◌, ◌<◌, ◌≤◌, Bool, true, false, cond, not, ◌&&◌, ◌==◌, List, []}
 use Rattle.std.proofs.Common.{◌∷◌, ◌++◌, take, map, get_or, refl, sym, ap, ◌∙◌, subst, arith, inl, inr, w32, eq-eqb}
 use Rattle.std.proofs.Common.{true≢false, ◌||◌}
-use Rattle.std.specs.Int.{to_le_bytes}
 use Rattle.std.specs.List.{AllByRecursion}
 use Rattle.std.proofs.lemmas.Bool.Decides.{nat_tests}
 use Rattle.std.proofs.lemmas.Bool.{cases_eq}
@@ -35,6 +34,7 @@ use Rattle.ring_laws.proofs.ReadingLaw.{byte_read-stands}
 use Rattle.ring_laws.proofs.States.{Says, state_says, state_in_reading, reading_is, log_same}
 use Rattle.ring_laws.proofs.BootLaw.{IsRead, booted_bytes, booted_image, booted_mended, stands_as_read, read_stands}
 use Rattle.ring_laws.proofs.BootLaw.{boot_fixes-all, fixes-stores}
+use Rattle.zone_spec.specs.WordBytes.{word_bytes}
 
 never : (b : Bool) → (b && false) ≡ true → ⊥
 never true e = true≢false (sym e)
@@ -69,7 +69,7 @@ unfolding all_stages
 no_stage z image = refl
 
 sig_stage : (z : Zone) (image : List ℕ) → all_stages z (SigWord z.sig ∷ erase_stages) image
-    ≡ all_stages z erase_stages (put image 0 (to_le_bytes w32 z.sig))
+    ≡ all_stages z erase_stages (put image 0 (word_bytes z.byte_order z.sig))
 unfolding all_stages stage_stores after_stores
 sig_stage z image = refl
 
@@ -89,9 +89,9 @@ module _ (z : Zone) (valid : IsValidZone z) (image : List ℕ) (im : IsImage z i
   x_image = booted_image z valid image im
 
   -- the words that then stand are those that were read
-  x_words : standing_words x ≡ words_read z image
+  x_words : standing_words z x ≡ words_read z image
   unfolding x part_bytes
-  x_words = ap words_in (stands_as_read z valid image im Header tt)
+  x_words = ap (words_in z.byte_order) (stands_as_read z valid image im Header tt)
 
   x_header : ReadsAsStands z x Header
   unfolding x
@@ -101,11 +101,11 @@ module _ (z : Zone) (valid : IsValidZone z) (image : List ℕ) (im : IsImage z i
   unfolding x
   x_reads part = (booted_mended z valid image im part).reading
 
-  signed_stage : (standing_words (put x 0 (to_le_bytes w32 z.sig))).sig ≡ z.sig
-  signed_stage = word_of-stored (put x 0 (to_le_bytes w32 z.sig)) 0 z.sig (omega arith) valid.word
-      (λ i k. put-inside x 0 i (to_le_bytes w32 z.sig) (omega (arith, valid.at_least, x_image.0)) k)
+  signed_stage : (standing_words z (put x 0 (word_bytes z.byte_order z.sig))).sig ≡ z.sig
+  signed_stage = word_of-stored z.byte_order (put x 0 (word_bytes z.byte_order z.sig)) 0 z.sig (omega arith) valid.word
+      (λ i k. put-inside x 0 i (word_bytes z.byte_order z.sig) (omega (arith, valid.at_least, x_image.0)) k)
 
-  sig_known : (standing_words x).sig ≡ z.sig → IsRingForm z (all_stages z erase_stages x) []
+  sig_known : (standing_words z x).sig ≡ z.sig → IsRingForm z (all_stages z erase_stages x) []
   sig_known e = erase_law z valid x x_image.0 x_image.1 e
 
   -- by the state that was read
@@ -116,8 +116,8 @@ module _ (z : Zone) (valid : IsValidZone z) (image : List ℕ) (im : IsImage z i
   unfolding erasure_by told_by
   boot_by Unsigned says parts =
       subst (λ y. IsRingForm z y []) (sym (sig_stage z x))
-      (erase_law z valid (put x 0 (to_le_bytes w32 z.sig)) (length-put x 0 (to_le_bytes w32 z.sig) ∙ x_image.0)
-      (put-bytes x 0 _ x_image.1 (word-bytes z.sig)) signed_stage)
+      (erase_law z valid (put x 0 (word_bytes z.byte_order z.sig)) (length-put x 0 (word_bytes z.byte_order z.sig) ∙ x_image.0)
+      (put-bytes x 0 _ x_image.1 (word-bytes z.byte_order z.sig)) signed_stage)
   boot_by Empty says parts =
       subst (λ y. IsRingForm z y []) (sym (no_stage z x))
       (ring_none z x (omega (arith, valid.room)) (ap (λ w. w.sig) x_words ∙ says.0)
@@ -148,7 +148,7 @@ module _ (z : Zone) (valid : IsValidZone z) (image : List ℕ) (im : IsImage z i
         is_open = subst (λ v. IsOpenUnlessDump z.name.kind v z.cap) (sym x_words)
             (kept_open z r z.name.kind says.2 says.1 e);
         header = x_header;
-        blocks = λ b h. parts (Block b) (let n : (standing_words x).size ≡ w.size = ap (λ w. w.size) x_words in
+        blocks = λ b h. parts (Block b) (let n : (standing_words z x).size ≡ w.size = ap (λ w. w.size) x_words in
             omega (arith, n));
       })
 

@@ -2,8 +2,8 @@
 use Rattle.std.proofs.Common.{◌≡◌, ℕ, ◌+◌, ◌-◌, ◌%◌, ◌<◌, ◌≤◌, List, [], ◌∷◌, ◌++◌, length, take, refl, sym, ap, ◌∙◌}
 use Rattle.std.proofs.Common.{subst, arith, length-take, length-append, length-drop, w32, append-nil}
 use Rattle.std.proofs.Math.Nat.{mod-eq_of_lt}
-use Rattle.std.specs.Int.{to_le_bytes}
 use Rattle.zone_spec.specs.declared.Zone.{Zone}
+use Rattle.zone_spec.specs.declared.params.ByteOrder.{ByteOrder}
 use Rattle.zone_spec.specs.declared.Words.{Words}
 use Rattle.zone_spec.specs.declared.Kind.{Kind}
 use Rattle.zone_spec.specs.declared.Kind.TheVariants.{Dump as DumpKind, Console, Ftrace, Pmsg}
@@ -22,31 +22,32 @@ use Rattle.ring_laws.proofs.PartsLaw.{put-bytes, parity-own, parity-bytes, stage
 use Rattle.ring_laws.proofs.EveryParity.{append_keeps, AppendLeaves, append_leaves, word-bytes, standing_words-same}
 use Rattle.ring_laws.proofs.EveryParity.{part-bytes}
 use Rattle.ring_laws.proofs.PartWords.{has_parity}
+use Rattle.zone_spec.specs.WordBytes.{word_bytes}
 
 -- the image after an erasure's words
-abbrev pub erased : List ℕ → List ℕ
-erased image = put (put image 4 (to_le_bytes w32 0)) 8 (to_le_bytes w32 0)
+abbrev pub erased : ByteOrder → List ℕ → List ℕ
+erased order image = put (put image 4 (word_bytes order 0)) 8 (word_bytes order 0)
 
 pub all_stages-erase : (z : Zone) (image : List ℕ) → all_stages z erase_stages image
-    ≡ stage_image z (ParityOf Header) (erased image)
+    ≡ stage_image z (ParityOf Header) (erased z.byte_order image)
 unfolding all_stages stage_stores after_stores
 all_stages-erase z image = refl
 
-pub length-erased : (image : List ℕ) → length (erased image) ≡ length image
-length-erased image = length-put _ 8 (to_le_bytes w32 0) ∙ length-put image 4 (to_le_bytes w32 0)
+pub length-erased : (order : ByteOrder) (image : List ℕ) → length (erased order image) ≡ length image
+length-erased order image = length-put _ 8 (word_bytes order 0) ∙ length-put image 4 (word_bytes order 0)
 
-erased-start : (image : List ℕ) → 12 ≤ length image → (standing_words (erased image)).start ≡ 0
-erased-start image room = word_of-stored (erased image) 4 0 (omega arith) (omega arith) (λ i k.
-    put-below _ 8 (4 + i) (to_le_bytes w32 0) (omega arith) ∙ put-inside image 4 i (to_le_bytes w32 0) (omega arith) k)
+erased-start : (z : Zone) (image : List ℕ) → 12 ≤ length image → (standing_words z (erased z.byte_order image)).start ≡ 0
+erased-start z image room = word_of-stored z.byte_order (erased z.byte_order image) 4 0 (omega arith) (omega arith) (λ i k.
+    put-below _ 8 (4 + i) (word_bytes z.byte_order 0) (omega arith) ∙ put-inside image 4 i (word_bytes z.byte_order 0) (omega arith) k)
 
-erased-size : (image : List ℕ) → 12 ≤ length image → (standing_words (erased image)).size ≡ 0
-erased-size image room = word_of-stored (erased image) 8 0 (omega arith) (omega arith) (λ i k.
-    put-inside _ 8 i (to_le_bytes w32 0) (omega (arith, length-put image 4 (to_le_bytes w32 0))) k)
+erased-size : (z : Zone) (image : List ℕ) → 12 ≤ length image → (standing_words z (erased z.byte_order image)).size ≡ 0
+erased-size z image room = word_of-stored z.byte_order (erased z.byte_order image) 8 0 (omega arith) (omega arith) (λ i k.
+    put-inside _ 8 i (word_bytes z.byte_order 0) (omega (arith, length-put image 4 (word_bytes z.byte_order 0))) k)
 
-erased-sig : (image : List ℕ) → (standing_words (erased image)).sig ≡ (standing_words image).sig
-erased-sig image = word_of-same (erased image) image 0 (omega arith) (λ i k.
-    put-below _ 8 (0 + i) (to_le_bytes w32 0) (omega arith)
-    ∙ put-below image 4 (0 + i) (to_le_bytes w32 0) (omega arith))
+erased-sig : (z : Zone) (image : List ℕ) → (standing_words z (erased z.byte_order image)).sig ≡ (standing_words z image).sig
+erased-sig z image = word_of-same z.byte_order (erased z.byte_order image) image 0 (omega arith) (λ i k.
+    put-below _ 8 (0 + i) (word_bytes z.byte_order 0) (omega arith)
+    ∙ put-below image 4 (0 + i) (word_bytes z.byte_order 0) (omega arith))
 
 open_none : (kind : Kind) (w : Words) (cap : ℕ) → w.start ≡ 0 → w.size ≡ 0 → 0 < cap → IsOpenUnlessDump kind w cap
 open_none DumpKind w cap e f h = tt
@@ -55,49 +56,49 @@ open_none Ftrace w cap e f h = (omega (arith, e), λ _. e ∙ sym f)
 open_none Pmsg w cap e f h = (omega (arith, e), λ _. e ∙ sym f)
 
 -- a signed zone with both words zero is in ring form for nothing
-pub ring_none : (z : Zone) (image : List ℕ) → 0 < z.cap → (standing_words image).sig ≡ z.sig
-    → (standing_words image).start ≡ 0 → (standing_words image).size ≡ 0 → ReadsAsStands z image Header
+pub ring_none : (z : Zone) (image : List ℕ) → 0 < z.cap → (standing_words z image).sig ≡ z.sig
+    → (standing_words z image).start ≡ 0 → (standing_words z image).size ≡ 0 → ReadsAsStands z image Header
     → IsRingForm z image []
 ring_none z image room s a b head = record {
   ring = (omega (arith, a, b), omega (arith, b));
   signed = s;
   told_length = b;
   bytes = rw (a, b) refl;
-  is_open = open_none z.name.kind (standing_words image) z.cap a b room;
+  is_open = open_none z.name.kind (standing_words z image) z.cap a b room;
   header = head;
   blocks = λ k h. absurd (omega (arith, b));
 }
 
 module _ (z : Zone) (valid : IsValidZone z) where
   erase_words : (image : List ℕ) → length image ≡ z.size → AreBytes image
-      → let y = all_stages z erase_stages image in ((standing_words y).start ≡ 0) × ((standing_words y).size ≡ 0)
-      × ((standing_words y).sig ≡ (standing_words image).sig) × ReadsAsStands z y Header × AreBytes y
+      → let y = all_stages z erase_stages image in ((standing_words z y).start ≡ 0) × ((standing_words z y).size ≡ 0)
+      × ((standing_words z y).sig ≡ (standing_words z image).sig) × ReadsAsStands z y Header × AreBytes y
   erase_words image len bytes =
-      let e : List ℕ = erased image in
-      let e_bytes : AreBytes e = put-bytes (put image 4 (to_le_bytes w32 0)) 8 _
-      (put-bytes image 4 _ bytes (word-bytes 0)) (word-bytes 0) in
-      let e_len : length e ≡ z.size = length-erased image ∙ len in
+      let e : List ℕ = erased z.byte_order image in
+      let e_bytes : AreBytes e = put-bytes (put image 4 (word_bytes z.byte_order 0)) 8 _
+      (put-bytes image 4 _ bytes (word-bytes z.byte_order 0)) (word-bytes z.byte_order 0) in
+      let e_len : length e ≡ z.size = length-erased z.byte_order image ∙ len in
       let y : List ℕ = stage_image z (ParityOf Header) e in
-      let same : standing_words y ≡ standing_words e = standing_words-same z y e (stage_parity-data z e Header) in
+      let same : standing_words z y ≡ standing_words z e = standing_words-same z y e (stage_parity-data z e Header) in
       let room : 12 ≤ length image = omega (arith, valid.at_least) in
       rw all_stages-erase (
-        ap (λ w. w.start) same ∙ erased-start image room,
-        ap (λ w. w.size) same ∙ erased-size image room,
-        ap (λ w. w.sig) same ∙ erased-sig image,
+        ap (λ w. w.start) same ∙ erased-start z image room,
+        ap (λ w. w.size) same ∙ erased-size z image room,
+        ap (λ w. w.sig) same ∙ erased-sig z image,
         parity-own z valid (has_parity z.parity) e Header tt e_len e_bytes,
         parity-bytes z valid (has_parity z.parity) e Header e_bytes,
       )
 
   -- an erasure leaves a ring of nothing
-  pub erase_law : (image : List ℕ) → length image ≡ z.size → AreBytes image → (standing_words image).sig ≡ z.sig
+  pub erase_law : (image : List ℕ) → length image ≡ z.size → AreBytes image → (standing_words z image).sig ≡ z.sig
       → IsRingForm z (all_stages z erase_stages image) []
   erase_law image len bytes sig =
       let w = erase_words image len bytes in
       ring_none z _ (omega (arith, valid.room)) (w.2 ∙ sig) w.0 w.1 w.3
 
   append_any : (image told q : List ℕ) → length image ≡ z.size → AreBytes image → AreBytes q → length q ≤ z.cap
-      → IsRingForm z image told → IsOpen (standing_words image) z.cap
-      → IsRingForm z (all_stages z (append_stages z (standing_words image).start (standing_words image).size q) image)
+      → IsRingForm z image told → IsOpen (standing_words z image) z.cap
+      → IsRingForm z (all_stages z (append_stages z (standing_words z image).start (standing_words z image).size q) image)
       (last_items z.cap (told ++ q))
   unfolding all_stages
   append_any image told [] len bytes new short ring openss =
@@ -109,11 +110,11 @@ module _ (z : Zone) (valid : IsValidZone z) where
   -- an append to a ring whose words are known
   append_at : (image told q : List ℕ) (s n : ℕ) → length image ≡ z.size → AreBytes image → AreBytes q → length q ≤ z.cap
       → IsRingForm z image told
-      → (standing_words image).start ≡ s → (standing_words image).size ≡ n → s < z.cap → (n < z.cap → s ≡ n)
+      → (standing_words z image).start ≡ s → (standing_words z image).size ≡ n → s < z.cap → (n < z.cap → s ≡ n)
       → IsRingForm z (all_stages z (append_stages z s n q) image) (last_items z.cap (told ++ q))
   append_at image told q s n len bytes new short ring es en below is_open =
       subst (λ k. IsRingForm z (all_stages z (append_stages z k n q) image) (last_items z.cap (told ++ q))) es
-      (subst (λ k. IsRingForm z (all_stages z (append_stages z (standing_words image).start k q) image)
+      (subst (λ k. IsRingForm z (all_stages z (append_stages z (standing_words z image).start k q) image)
       (last_items z.cap (told ++ q))) en
       (append_any image told q len bytes new short ring (
         omega (arith, es),
@@ -122,7 +123,7 @@ module _ (z : Zone) (valid : IsValidZone z) where
 
   -- an erasure, a line and a body's front
   dump_law : (image : List ℕ) (b : ℕ) (bs front : List ℕ) → length image ≡ z.size → AreBytes image → AreBytes (b ∷ bs)
-      → AreBytes front → (standing_words image).sig ≡ z.sig
+      → AreBytes front → (standing_words z image).sig ≡ z.sig
       → length (b ∷ bs) < z.cap → length (b ∷ bs) + length front ≤ z.cap
       → IsRingForm z (all_stages z (erase_stages ++ append_stages z 0 0 (b ∷ bs) ++ append_stages z (length (b ∷ bs))
       (length (b ∷ bs)) front) image) ((b ∷ bs) ++ front)
@@ -141,7 +142,7 @@ module _ (z : Zone) (valid : IsValidZone z) where
       let leaves : AppendLeaves z 0 0 line first second =
       append_leaves z valid (has_parity z.parity) 0 0 b bs first (omega arith) (omega arith)
       first_len w.4 line_bytes in
-      let second_start : (standing_words second).start ≡ h =
+      let second_start : (standing_words z second).start ≡ h =
       ap (λ v. v.start) (standing_words-same z second (appended z 0 0 line first) leaves.data_same)
       ∙ appended-start z 0 0 line first (omega (arith, valid.cap)) (omega arith) (omega arith)
       (omega (arith, valid.cap, valid.at_most))
@@ -162,13 +163,13 @@ module _ (z : Zone) (valid : IsValidZone z) where
   pub call_law : (call : Call) (image told : List ℕ) → IsImage z image → IsRingForm z image told → CanBegin z image call
       → IsRingForm z (image_after z call image (length (call_stores z call image))) (told_after z.cap call told)
   call_law (Append payload) image told im ring can =
-      let stages : call_stages z (standing_words image) (Append payload)
-      ≡ append_stages z (standing_words image).start (standing_words image).size (last_items z.cap payload) =
+      let stages : call_stages z (standing_words z image) (Append payload)
+      ≡ append_stages z (standing_words z image).start (standing_words z image).size (last_items z.cap payload) =
       append-nil _ in
       subst (λ x. IsRingForm z x (last_items z.cap (told ++ payload)))
       (sym (image_after-all z (Append payload) image ∙ ap (λ gs. all_stages z gs image) stages))
-      (subst (λ xs. IsRingForm z (all_stages z (append_stages z (standing_words image).start
-      (standing_words image).size (last_items z.cap payload)) image) xs) (last_items-append z.cap told payload)
+      (subst (λ xs. IsRingForm z (all_stages z (append_stages z (standing_words z image).start
+      (standing_words z image).size (last_items z.cap payload)) image) xs) (last_items-append z.cap told payload)
       (append_any image told (last_items z.cap payload) im.0 im.1
       (part-bytes (length payload - z.cap) payload can.1).1
       (omega (arith, length-drop (length payload - z.cap) payload)) ring can.0))
@@ -177,7 +178,7 @@ module _ (z : Zone) (valid : IsValidZone z) where
   call_law (Dump (b ∷ bs) body) image told im ring can =
       let h : ℕ = length (b ∷ bs) in
       let front : List ℕ = take (z.cap - h) body in
-      let stages : call_stages z (standing_words image) (Dump (b ∷ bs) body)
+      let stages : call_stages z (standing_words z image) (Dump (b ∷ bs) body)
       ≡ erase_stages ++ append_stages z 0 0 (b ∷ bs) ++ append_stages z h h front =
       ap (λ gs. erase_stages ++ append_stages z 0 0 (b ∷ bs) ++ gs) (append-nil (append_stages z h h front)) in
       subst (λ x. IsRingForm z x (told_after z.cap (Dump (b ∷ bs) body) told))

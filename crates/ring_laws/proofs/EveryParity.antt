@@ -5,8 +5,8 @@ use Rattle.std.proofs.Common.{inl, inr, length-take, length-drop, w32, mul_comm,
 use Rattle.std.proofs.Common.{mul-le-mul_right}
 use Rattle.std.proofs.lemmas.Bool.{cases_lt}
 use Rattle.std.proofs.lemmas.List.{get_or_past}
-use Rattle.std.specs.Int.{to_le_bytes}
 use Rattle.zone_spec.specs.declared.Zone.{Zone}
+use Rattle.zone_spec.specs.declared.params.ByteOrder.{ByteOrder}
 use Rattle.zone_spec.specs.Zones.{IsValidZone}
 use Rattle.zone_spec.specs.Parts.{AreBytes, Header, Block, standing_words, words_in}
 use Rattle.zone_spec.specs.Told.{last_items}
@@ -24,13 +24,14 @@ use Rattle.ring_laws.proofs.PartsLaw.{block_some, HasParity, SamePart, SamePart-
 use Rattle.ring_laws.proofs.PartsLaw.{ReadsAsStands-same, SameData, SameData-trans, SameData-put, put-bytes, parity-own}
 use Rattle.ring_laws.proofs.PartsLaw.{parity-other, parity-bytes, stage_parity-data, slice_range-same}
 use Rattle.ring_laws.proofs.RunLaw.{RunLeaves, run_leaves, cap_within}
+use Rattle.zone_spec.specs.WordBytes.{word_bytes}
 
-pub word-bytes : (n : ℕ) → AreBytes (to_le_bytes w32 n)
-word-bytes n zero = omega arith
-word-bytes n (suc zero) = omega arith
-word-bytes n (suc (suc zero)) = omega arith
-word-bytes n (suc (suc (suc zero))) = omega arith
-word-bytes n (suc (suc (suc (suc i)))) = omega arith
+pub word-bytes : (order : ByteOrder) (n : ℕ) → AreBytes (word_bytes order n)
+word-bytes order n zero = omega arith
+word-bytes order n (suc zero) = omega arith
+word-bytes order n (suc (suc zero)) = omega arith
+word-bytes order n (suc (suc (suc zero))) = omega arith
+word-bytes order n (suc (suc (suc (suc i)))) = omega arith
 
 pub part-bytes : (n : ℕ) (xs : List ℕ) → AreBytes xs → AreBytes (take n xs) × AreBytes (drop n xs)
 part-bytes n xs h = (
@@ -42,9 +43,9 @@ part-bytes n xs h = (
   (λ i. rw (get_or-drop n xs i 0) (h (n + i))),
 )
 
-size_put-bytes : (full : Bool) (size : ℕ) (x : List ℕ) → AreBytes x → AreBytes (size_put full size x)
-size_put-bytes true size x h = h
-size_put-bytes false size x h = put-bytes x 8 (to_le_bytes w32 size) h (word-bytes size)
+size_put-bytes : (order : ByteOrder) (full : Bool) (size : ℕ) (x : List ℕ) → AreBytes x → AreBytes (size_put order full size x)
+size_put-bytes order true size x h = h
+size_put-bytes order false size x h = put-bytes x 8 (word_bytes order size) h (word-bytes order size)
 
 -- header bytes put leave the blocks
 header_put-block : (z : Zone) (x : List ℕ) (at : ℕ) (bs : List ℕ) (b : ℕ) → at + length bs ≤ 12
@@ -53,9 +54,9 @@ header_put-block z x at bs b h = SamePart-places z _ x (Block b) (length-put x a
     (λ i k l. put-above x at i bs (omega arith)) (λ i k l. put-above x at i bs (omega arith))
 
 size_put-block : (z : Zone) (full : Bool) (size : ℕ) (x : List ℕ) (b : ℕ)
-    → SamePart z (size_put full size x) x (Block b)
+    → SamePart z (size_put z.byte_order full size x) x (Block b)
 size_put-block z true size x b = record { bytes = refl; word = refl }
-size_put-block z false size x b = header_put-block z x 8 (to_le_bytes w32 size) b (omega arith)
+size_put-block z false size x b = header_put-block z x 8 (word_bytes z.byte_order size) b (omega arith)
 
 header_last : (z : Zone) (x : List ℕ) → all_stages z (ParityOf Header ∷ []) x ≡ stage_image z (ParityOf Header) x
 unfolding all_stages
@@ -80,14 +81,14 @@ append_leaves z valid parity start size c cs x below short len bytes new =
     let r2 : List ℕ = drop (z.cap - start) q in
     let first : List Stage = run_stages z start r1 in
     let second : List Stage = run_stages z 0 r2 in
-    let x0 : List ℕ = size_put (size == z.cap) (min z.cap (size + length q)) x in
-    let w : List ℕ = put x0 4 (to_le_bytes w32 ((start + length q) % z.cap)) in
-    let w_len : length w ≡ z.size = length-put x0 4 (to_le_bytes w32 ((start + length q) % z.cap))
-    ∙ length-size_put (size == z.cap) (min z.cap (size + length q)) x ∙ len in
-    let w_bytes : AreBytes w = put-bytes x0 4 _ (size_put-bytes (size == z.cap) (min z.cap (size + length q)) x bytes)
-    (word-bytes ((start + length q) % z.cap)) in
+    let x0 : List ℕ = size_put z.byte_order (size == z.cap) (min z.cap (size + length q)) x in
+    let w : List ℕ = put x0 4 (word_bytes z.byte_order ((start + length q) % z.cap)) in
+    let w_len : length w ≡ z.size = length-put x0 4 (word_bytes z.byte_order ((start + length q) % z.cap))
+    ∙ length-size_put z.byte_order (size == z.cap) (min z.cap (size + length q)) x ∙ len in
+    let w_bytes : AreBytes w = put-bytes x0 4 _ (size_put-bytes z.byte_order (size == z.cap) (min z.cap (size + length q)) x bytes)
+    (word-bytes z.byte_order ((start + length q) % z.cap)) in
     let w_block : (b : ℕ) → SamePart z w x (Block b) = (λ b. SamePart-trans
-    (header_put-block z x0 4 (to_le_bytes w32 ((start + length q) % z.cap)) b (omega arith))
+    (header_put-block z x0 4 (word_bytes z.byte_order ((start + length q) % z.cap)) b (omega arith))
     (size_put-block z (size == z.cap) (min z.cap (size + length q)) x b)) in
     let len1 : length r1 ≡ min (z.cap - start) (length q) = length-take (z.cap - start) q in
     let len2 : length r2 ≡ length q - (z.cap - start) = length-drop (z.cap - start) q in
@@ -138,8 +139,8 @@ append_leaves z valid parity start size c cs x below short len bytes new =
     })
 
 -- images with the same data have the same standing words
-pub standing_words-same : (z : Zone) (x y : List ℕ) → SameData z x y → standing_words x ≡ standing_words y
-standing_words-same z x y s = ap words_in (slice_range-same x y 0 12 s.total (λ i h k. s.each i (omega arith)))
+pub standing_words-same : (z : Zone) (x y : List ℕ) → SameData z x y → standing_words z x ≡ standing_words z y
+standing_words-same z x y s = ap (words_in z.byte_order) (slice_range-same x y 0 12 s.total (λ i h k. s.each i (omega arith)))
 
 pub block_has : (z : Zone) → IsValidZone z → (b : ℕ) → z.block * b < z.cap → b < z.blocks
 block_has z valid b h = elim (cases_lt b z.blocks) [
@@ -151,13 +152,13 @@ block_has z valid b h = elim (cases_lt b z.blocks) [
 -- an append of bytes that fit
 pub append_keeps : (z : Zone) (image told : List ℕ) (c : ℕ) (cs : List ℕ) → IsValidZone z → HasParity z.parity
     → length image ≡ z.size → AreBytes image → AreBytes (c ∷ cs) → length (c ∷ cs) ≤ z.cap
-    → IsRingForm z image told → (standing_words image).start < z.cap
-    → ((standing_words image).size < z.cap → (standing_words image).start ≡ (standing_words image).size)
-    → IsRingForm z (all_stages z (append_stages z (standing_words image).start (standing_words image).size (c ∷ cs))
+    → IsRingForm z image told → (standing_words z image).start < z.cap
+    → ((standing_words z image).size < z.cap → (standing_words z image).start ≡ (standing_words z image).size)
+    → IsRingForm z (all_stages z (append_stages z (standing_words z image).start (standing_words z image).size (c ∷ cs))
     image) (last_items z.cap (told ++ c ∷ cs))
 append_keeps z image told c cs valid parity len bytes new short ring below is_open =
-    let s : ℕ = (standing_words image).start in
-    let n : ℕ = (standing_words image).size in
+    let s : ℕ = (standing_words z image).start in
+    let n : ℕ = (standing_words z image).size in
     let q : List ℕ = c ∷ cs in
     let y : List ℕ = all_stages z (append_stages z s n q) image in
     let a : List ℕ = appended z s n q image in
@@ -171,12 +172,12 @@ append_keeps z image told c cs valid parity len bytes new short ring below is_op
     let a_ring : RingBytes (λ p. get_or a (12 + p) 0) ((s + length q) % z.cap) (min z.cap (n + length q))
     (last_items z.cap (told ++ q)) =
     RingBytes-append _ _ s n z.cap told q old added below ring.ring.1 ring.ring.0 is_open short in
-    let words : standing_words y ≡ standing_words a = standing_words-same z y a leaves.data_same in
-    let start_is : (standing_words y).start ≡ (s + length q) % z.cap =
+    let words : standing_words z y ≡ standing_words z a = standing_words-same z y a leaves.data_same in
+    let start_is : (standing_words z y).start ≡ (s + length q) % z.cap =
     ap (λ w. w.start) words ∙ appended-start z s n q image room below short cap_small in
-    let size_is : (standing_words y).size ≡ min z.cap (n + length q) =
+    let size_is : (standing_words z y).size ≡ min z.cap (n + length q) =
     ap (λ w. w.size) words ∙ appended-size z s n q image room below short cap_small ring.ring.1 refl in
-    let sig_is : (standing_words y).sig ≡ (standing_words image).sig =
+    let sig_is : (standing_words z y).sig ≡ (standing_words z image).sig =
     ap (λ w. w.sig) words ∙ appended-sig z s n q image room below short in
     let within : ((s + length q) % z.cap ≤ min z.cap (n + length q)) × ((s + length q) % z.cap < z.cap)
     × (min z.cap (n + length q) < z.cap → (s + length q) % z.cap ≡ min z.cap (n + length q)) =
@@ -192,7 +193,7 @@ append_keeps z image told c cs valid parity len bytes new short ring below is_op
       signed = sig_is ∙ ring.signed;
       told_length = size_is ∙ sym y_ring.total;
       bytes = rw (start_is, size_is) (log-RingBytes _ _ _ _ within.0 y_ring);
-      is_open = open_at z.name.kind (standing_words y) z.cap (rw start_is within.1) (rw (start_is, size_is) within.2);
+      is_open = open_at z.name.kind (standing_words z y) z.cap (rw start_is within.1) (rw (start_is, size_is) within.2);
       header = leaves.header;
       blocks = λ b h.
           let below_new : z.block * b < min z.cap (n + length q) = rw size_is at h in

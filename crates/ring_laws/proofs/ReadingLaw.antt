@@ -69,9 +69,9 @@ reads_in z image (x ∷ xs) w Invalid l e = let f : Invalid ≡ Found = told_som
 pub reading_law : (z : Zone) (image told : List ℕ) → 0 < z.block → IsRingForm z image told → ReadsTold z image told
 unfolding zone_reading part_bytes
 reading_law z image told k ring =
-    let w : Words = standing_words image in
-    let same : words_in (part_reading z image Header).bytes ≡ w =
-    ap words_in (part_reading-stands z image Header ring.header) in
+    let w : Words = standing_words z image in
+    let same : words_in z.byte_order (part_reading z image Header).bytes ≡ w =
+    ap (words_in z.byte_order) (part_reading-stands z image Header ring.header) in
     let standing : RingBytes (λ p. get_or image (12 + p) 0) w.start w.size told =
     RingBytes-log _ w.start w.size told ring.ring.0 ring.told_length ring.bytes in
     let reads : (p : ℕ) → p < w.size → byte_read z image p ≡ get_or image (12 + p) 0 =
@@ -89,12 +89,12 @@ reading_law z image told k ring =
     let all : ((reading_in z image w (state_of z w)).log ≡ told) × ((reading_in z image w (state_of z w)).words ≡ w)
     × ((reading_in z image w (state_of z w)).state ≡ state_of z w) =
     reads_in z image told w (state_of z w) log state in
-    let moved : ((reading_in z image (words_in (part_reading z image Header).bytes)
-    (state_of z (words_in (part_reading z image Header).bytes))).log ≡ told)
-    × ((reading_in z image (words_in (part_reading z image Header).bytes)
-    (state_of z (words_in (part_reading z image Header).bytes))).words ≡ w)
-    × ((reading_in z image (words_in (part_reading z image Header).bytes)
-    (state_of z (words_in (part_reading z image Header).bytes))).state
+    let moved : ((reading_in z image (words_in z.byte_order (part_reading z image Header).bytes)
+    (state_of z (words_in z.byte_order (part_reading z image Header).bytes))).log ≡ told)
+    × ((reading_in z image (words_in z.byte_order (part_reading z image Header).bytes)
+    (state_of z (words_in z.byte_order (part_reading z image Header).bytes))).words ≡ w)
+    × ((reading_in z image (words_in z.byte_order (part_reading z image Header).bytes)
+    (state_of z (words_in z.byte_order (part_reading z image Header).bytes))).state
     ≡ (if length told == 0 then Empty else Found)) =
     subst (λ v. ((reading_in z image v (state_of z v)).log ≡ told) × ((reading_in z image v (state_of z v)).words ≡ w)
     × ((reading_in z image v (state_of z v)).state ≡ (if length told == 0 then Empty else Found)))

@@ -5,8 +5,8 @@ use Rattle.std.proofs.Common.{length-take, get_or-drop, get_or-take, w32, take_a
 use Rattle.std.proofs.lemmas.Bool.{cases_lt}
 use Rattle.std.proofs.lemmas.List.{drop-drop, drop_at}
 use Rattle.std.proofs.Math.Nat.{mod-eq_of_lt}
-use Rattle.std.specs.Int.{to_le_bytes}
 use Rattle.zone_spec.specs.declared.Zone.{Zone}
+use Rattle.zone_spec.specs.declared.params.ByteOrder.{ByteOrder}
 use Rattle.zone_spec.specs.declared.Words.{Words}
 use Rattle.zone_spec.specs.declared.Kind.{Kind}
 use Rattle.zone_spec.specs.declared.Kind.TheVariants.{Dump, Console, Ftrace, Pmsg}
@@ -19,29 +19,30 @@ use Rattle.ring_laws.proofs.Images.{length-put, put-below, put-above, put-inside
 use Rattle.ring_laws.proofs.RingBytes.{AppendedBytes, mod_once}
 use Rattle.ring_laws.proofs.AppendLaw.{size_put, appended, all_stages, after_stores-stores_in_turn, word_of-stored}
 use Rattle.ring_laws.proofs.AppendLaw.{word_of-same}
+use Rattle.zone_spec.specs.WordBytes.{word_bytes}
 
 -- a byte that an append leaves at a place of the image that no run meets
 pub appended-header : (z : Zone) (start size : ℕ) (q image : List ℕ) (i : ℕ) → i < 12 →
     get_or (appended z start size q image) i 0
-    ≡ get_or (put (size_put (size == z.cap) (min z.cap (size + length q)) image) 4
-    (to_le_bytes w32 ((start + length q) % z.cap))) i 0
+    ≡ get_or (put (size_put z.byte_order (size == z.cap) (min z.cap (size + length q)) image) 4
+    (word_bytes z.byte_order ((start + length q) % z.cap))) i 0
 appended-header z start size q image i h =
     put-below _ (12 + 0) i (drop (z.cap - start) q) (omega arith)
     ∙ put-below _ (12 + start) i (take (z.cap - start) q) (omega arith)
 
-pub length-size_put : (full : Bool) (size : ℕ) (image : List ℕ) → length (size_put full size image) ≡ length image
-length-size_put true size image = refl
-length-size_put false size image = length-put image 8 (to_le_bytes w32 size)
+pub length-size_put : (order : ByteOrder) (full : Bool) (size : ℕ) (image : List ℕ) → length (size_put order full size image) ≡ length image
+length-size_put order true size image = refl
+length-size_put order false size image = length-put image 8 (word_bytes order size)
 
-size_put-data : (full : Bool) (size : ℕ) (image : List ℕ) (i : ℕ) → 12 ≤ i
-    → get_or (size_put full size image) i 0 ≡ get_or image i 0
-size_put-data true size image i h = refl
-size_put-data false size image i h = put-above image 8 i (to_le_bytes w32 size) h
+size_put-data : (order : ByteOrder) (full : Bool) (size : ℕ) (image : List ℕ) (i : ℕ) → 12 ≤ i
+    → get_or (size_put order full size image) i 0 ≡ get_or image i 0
+size_put-data order true size image i h = refl
+size_put-data order false size image i h = put-above image 8 i (word_bytes order size) h
 
-size_put-below : (full : Bool) (size : ℕ) (image : List ℕ) (i : ℕ) → i < 8
-    → get_or (size_put full size image) i 0 ≡ get_or image i 0
-size_put-below true size image i h = refl
-size_put-below false size image i h = put-below image 8 i (to_le_bytes w32 size) h
+size_put-below : (order : ByteOrder) (full : Bool) (size : ℕ) (image : List ℕ) (i : ℕ) → i < 8
+    → get_or (size_put order full size image) i 0 ≡ get_or image i 0
+size_put-below order true size image i h = refl
+size_put-below order false size image i h = put-below image 8 i (word_bytes order size) h
 
 -- the data after an append, by its two runs
 module _ (z : Zone) (start size : ℕ) (q image : List ℕ) (room : 12 + z.cap ≤ length image) (below : start < z.cap)
@@ -50,20 +51,20 @@ module _ (z : Zone) (start size : ℕ) (q image : List ℕ) (room : 12 + z.cap �
   first_run = take (z.cap - start) q
 
   words_put : List ℕ
-  words_put = put (size_put (size == z.cap) (min z.cap (size + length q)) image) 4
-      (to_le_bytes w32 ((start + length q) % z.cap))
+  words_put = put (size_put z.byte_order (size == z.cap) (min z.cap (size + length q)) image) 4
+      (word_bytes z.byte_order ((start + length q) % z.cap))
 
   words_put-data : (i : ℕ) → 12 ≤ i → get_or words_put i 0 ≡ get_or image i 0
   unfolding words_put
   words_put-data i h =
-      put-above (size_put (size == z.cap) (min z.cap (size + length q)) image) 4 i
-      (to_le_bytes w32 ((start + length q) % z.cap)) (omega arith)
-      ∙ size_put-data (size == z.cap) (min z.cap (size + length q)) image i h
+      put-above (size_put z.byte_order (size == z.cap) (min z.cap (size + length q)) image) 4 i
+      (word_bytes z.byte_order ((start + length q) % z.cap)) (omega arith)
+      ∙ size_put-data z.byte_order (size == z.cap) (min z.cap (size + length q)) image i h
 
   length-words_put : length words_put ≡ length image
   unfolding words_put
-  length-words_put = length-put _ 4 (to_le_bytes w32 ((start + length q) % z.cap))
-      ∙ length-size_put (size == z.cap) (min z.cap (size + length q)) image
+  length-words_put = length-put _ 4 (word_bytes z.byte_order ((start + length q) % z.cap))
+      ∙ length-size_put z.byte_order (size == z.cap) (min z.cap (size + length q)) image
 
   pub appended-AppendedBytes : AppendedBytes (λ p. get_or image (12 + p) 0)
       (λ p. get_or (appended z start size q image) (12 + p) 0) start z.cap q
@@ -96,42 +97,42 @@ module _ (z : Zone) (start size : ℕ) (q image : List ℕ) (room : 12 + z.cap �
   }
 
   -- the words that then stand
-  pub appended-sig : (standing_words (appended z start size q image)).sig ≡ (standing_words image).sig
-  appended-sig = word_of-same _ image 0 (omega arith) (λ i k.
+  pub appended-sig : (standing_words z (appended z start size q image)).sig ≡ (standing_words z image).sig
+  appended-sig = word_of-same z.byte_order _ image 0 (omega arith) (λ i k.
       appended-header z start size q image (0 + i) (omega arith)
-      ∙ put-below _ 4 (0 + i) (to_le_bytes w32 ((start + length q) % z.cap)) (omega arith)
-      ∙ size_put-below (size == z.cap) (min z.cap (size + length q)) image (0 + i) (omega arith))
+      ∙ put-below _ 4 (0 + i) (word_bytes z.byte_order ((start + length q) % z.cap)) (omega arith)
+      ∙ size_put-below z.byte_order (size == z.cap) (min z.cap (size + length q)) image (0 + i) (omega arith))
 
-  pub appended-start : z.cap < 2 ^ 32 → (standing_words (appended z start size q image)).start
+  pub appended-start : z.cap < 2 ^ 32 → (standing_words z (appended z start size q image)).start
       ≡ (start + length q) % z.cap
-  appended-start l = word_of-stored _ 4 ((start + length q) % z.cap) (omega arith)
+  appended-start l = word_of-stored z.byte_order _ 4 ((start + length q) % z.cap) (omega arith)
       (let m : (start + length q) % z.cap < z.cap = mod-lt (start + length q)
       (let y : 0 < z.cap = omega arith in y) in omega arith)
       (λ i k.
       appended-header z start size q image (4 + i) (omega arith)
-      ∙ put-inside _ 4 i (to_le_bytes w32 ((start + length q) % z.cap))
-      (omega (arith, length-size_put (size == z.cap) (min z.cap (size + length q)) image)) k)
+      ∙ put-inside _ 4 i (word_bytes z.byte_order ((start + length q) % z.cap))
+      (omega (arith, length-size_put z.byte_order (size == z.cap) (min z.cap (size + length q)) image)) k)
 
-  pub appended-size : z.cap < 2 ^ 32 → size ≤ z.cap → (standing_words image).size ≡ size
-      → (standing_words (appended z start size q image)).size ≡ min z.cap (size + length q)
+  pub appended-size : z.cap < 2 ^ 32 → size ≤ z.cap → (standing_words z image).size ≡ size
+      → (standing_words z (appended z start size q image)).size ≡ min z.cap (size + length q)
   appended-size l fits was = by (size == z.cap) refl
     where
-      untouched : (full : Bool) (i : ℕ) → i < 4 → get_or (put (size_put full (min z.cap (size + length q)) image) 4
-          (to_le_bytes w32 ((start + length q) % z.cap))) (8 + i) 0
-          ≡ get_or (size_put full (min z.cap (size + length q)) image) (8 + i) 0
-      untouched full i k = put-above (size_put full (min z.cap (size + length q)) image) 4 (8 + i)
-          (to_le_bytes w32 ((start + length q) % z.cap)) (omega arith)
+      untouched : (full : Bool) (i : ℕ) → i < 4 → get_or (put (size_put z.byte_order full (min z.cap (size + length q)) image) 4
+          (word_bytes z.byte_order ((start + length q) % z.cap))) (8 + i) 0
+          ≡ get_or (size_put z.byte_order full (min z.cap (size + length q)) image) (8 + i) 0
+      untouched full i k = put-above (size_put z.byte_order full (min z.cap (size + length q)) image) 4 (8 + i)
+          (word_bytes z.byte_order ((start + length q) % z.cap)) (omega arith)
 
-      by : (full : Bool) → (size == z.cap) ≡ full → (standing_words (appended z start size q image)).size
+      by : (full : Bool) → (size == z.cap) ≡ full → (standing_words z (appended z start size q image)).size
           ≡ min z.cap (size + length q)
-      by true e = word_of-same _ image 8 (omega arith) (λ i k.
+      by true e = word_of-same z.byte_order _ image 8 (omega arith) (λ i k.
           appended-header z start size q image (8 + i) (omega arith) ∙ untouched (size == z.cap) i k
-          ∙ ap (λ full. get_or (size_put full (min z.cap (size + length q)) image) (8 + i) 0) e)
+          ∙ ap (λ full. get_or (size_put z.byte_order full (min z.cap (size + length q)) image) (8 + i) 0) e)
           ∙ was ∙ (let s : size ≡ z.cap = eqb-true size z.cap e in omega arith)
-      by false e = word_of-stored _ 8 (min z.cap (size + length q)) (omega arith) (omega arith) (λ i k.
+      by false e = word_of-stored z.byte_order _ 8 (min z.cap (size + length q)) (omega arith) (omega arith) (λ i k.
           appended-header z start size q image (8 + i) (omega arith) ∙ untouched (size == z.cap) i k
-          ∙ ap (λ full. get_or (size_put full (min z.cap (size + length q)) image) (8 + i) 0) e
-          ∙ put-inside image 8 i (to_le_bytes w32 (min z.cap (size + length q))) (omega arith) k)
+          ∙ ap (λ full. get_or (size_put z.byte_order full (min z.cap (size + length q)) image) (8 + i) 0) e
+          ∙ put-inside image 8 i (word_bytes z.byte_order (min z.cap (size + length q))) (omega arith) k)
 
 -- ---- the law
 
@@ -174,8 +175,8 @@ last_items-append cap xs ys = elim (cases_lt cap (length ys)) [
 -- the image after all stores of a call
 pub image_after-all : (z : Zone) (call : Call) (image : List ℕ)
     → image_after z call image (length (call_stores z call image))
-    ≡ all_stages z (call_stages z (standing_words image) call) image
+    ≡ all_stages z (call_stages z (standing_words z image) call) image
 unfolding call_stores
 image_after-all z call image =
     ap (after_stores image) (take_all (length (call_stores z call image)) (call_stores z call image) (omega arith))
-    ∙ after_stores-stores_in_turn z (call_stages z (standing_words image) call) image
+    ∙ after_stores-stores_in_turn z (call_stages z (standing_words z image) call) image

@@ -64,9 +64,9 @@ module _ (z : Zone) (valid : IsValidZone z) where
   pub stage_stores-all : (g : Stage) (image : List ℕ) → AreBytes image → HasBytes g
       → AllByRecursion IsStore (stage_stores z g image)
   unfolding stage_stores part_bytes
-  stage_stores-all (SigWord n) image h k = (word-bytes n, tt)
-  stage_stores-all (StartWord n) image h k = (word-bytes n, tt)
-  stage_stores-all (SizeWord n) image h k = (word-bytes n, tt)
+  stage_stores-all (SigWord n) image h k = (word-bytes z.byte_order n, tt)
+  stage_stores-all (StartWord n) image h k = (word-bytes z.byte_order n, tt)
+  stage_stores-all (SizeWord n) image h k = (word-bytes z.byte_order n, tt)
   stage_stores-all (Run place bytes) image h k = byte_stores-all (12 + place) bytes k
   stage_stores-all (ParityOf part) image h k =
       byte_stores-all (part_parity_at z part) _
@@ -132,8 +132,8 @@ module _ (z : Zone) (valid : IsValidZone z) where
   begun-bytes image (Dump line body) can = (can.2, can.3)
 
   pub call-all : (image : List ℕ) (call : Call) → CanBegin z image call
-      → AllByRecursion HasBytes (call_stages z (standing_words image) call)
-  call-all image call can = call_stages-all (standing_words image) call (begun-bytes image call can)
+      → AllByRecursion HasBytes (call_stages z (standing_words z image) call)
+  call-all image call can = call_stages-all (standing_words z image) call (begun-bytes image call can)
 
   -- the image after any stores of a call
   pub call_image : (image : List ℕ) (call : Call) (k : ℕ) → IsImage z image → CanBegin z image call
@@ -141,6 +141,6 @@ module _ (z : Zone) (valid : IsValidZone z) where
   unfolding call_stores
   call_image image call k im can = (
     length-after_stores image (take k (call_stores z call image)) ∙ im.0,
-    after-bytes image _ im.1 (all-take IsStore k _ (stores_in_turn-all (call_stages z (standing_words image) call)
+    after-bytes image _ im.1 (all-take IsStore k _ (stores_in_turn-all (call_stages z (standing_words z image) call)
         image im.1 (call-all image call can))),
   )

@@ -25,7 +25,7 @@ BootLeavesRingForm = (z : Zone) (now : List ℕ) → IsValidZone z → IsImage z
 -- a zone in ring form reads its told list, and the words that stand
 pub record ReadsTold (z : Zone) (image told : List ℕ) : Type 0 where
   pub log : (zone_reading z image).log ≡ told
-  pub words : (zone_reading z image).words ≡ standing_words image
+  pub words : (zone_reading z image).words ≡ standing_words z image
   pub state : (zone_reading z image).state ≡ (if length told == 0 then Empty else Found)
 
 -- so reads every zone in ring form

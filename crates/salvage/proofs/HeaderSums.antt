@@ -9,6 +9,9 @@ use Rattle.std.proofs.lemmas.Bool.{and_parts}
 use Rattle.std.proofs.lemmas.List.{take_at}
 use Rattle.list_laws.proofs.Elements.{AllByRecursion-append, AllByRecursion_from_places, replicate_from_places}
 use Rattle.zone_spec.specs.declared.Zone.{Zone}
+use Rattle.zone_spec.specs.declared.params.ByteOrder.{ByteOrder}
+use Rattle.zone_spec.specs.declared.params.ByteOrder.TheVariants.{Little, Big}
+use Rattle.zone_spec.specs.WordBytes.{turned}
 use Rattle.zone_spec.specs.declared.Words.{Words}
 use Rattle.zone_spec.specs.Zones.{IsValidZone}
 use Rattle.zone_spec.specs.Parts.{words_in}
@@ -43,24 +46,24 @@ distance-append [] (b ∷ v) w l = absurd (omega arith)
 distance-append (a ∷ u) [] w l = absurd (omega arith)
 distance-append (a ∷ u) (b ∷ v) w l = ap (λ n. (if a == b then 0 else 1) + n) (distance-append u v w (omega arith))
 
-words_taken : (c : List ℕ) → words_in (take 12 c) ≡ words_in c
-words_taken [] = refl
-words_taken (a ∷ []) = refl
-words_taken (a ∷ b ∷ []) = refl
-words_taken (a ∷ b ∷ c ∷ []) = refl
-words_taken (a ∷ b ∷ c ∷ d ∷ []) = refl
-words_taken (a ∷ b ∷ c ∷ d ∷ e ∷ []) = refl
-words_taken (a ∷ b ∷ c ∷ d ∷ e ∷ f ∷ []) = refl
-words_taken (a ∷ b ∷ c ∷ d ∷ e ∷ f ∷ g ∷ []) = refl
-words_taken (a ∷ b ∷ c ∷ d ∷ e ∷ f ∷ g ∷ h ∷ []) = refl
-words_taken (a ∷ b ∷ c ∷ d ∷ e ∷ f ∷ g ∷ h ∷ i ∷ []) = refl
-words_taken (a ∷ b ∷ c ∷ d ∷ e ∷ f ∷ g ∷ h ∷ i ∷ j ∷ []) = refl
-words_taken (a ∷ b ∷ c ∷ d ∷ e ∷ f ∷ g ∷ h ∷ i ∷ j ∷ k ∷ []) = refl
-words_taken (a ∷ b ∷ c ∷ d ∷ e ∷ f ∷ g ∷ h ∷ i ∷ j ∷ k ∷ l ∷ rest) = refl
+words_taken : (order : ByteOrder) (c : List ℕ) → words_in order (take 12 c) ≡ words_in order c
+words_taken order [] = refl
+words_taken order (a ∷ []) = refl
+words_taken order (a ∷ b ∷ []) = refl
+words_taken order (a ∷ b ∷ c ∷ []) = refl
+words_taken order (a ∷ b ∷ c ∷ d ∷ []) = refl
+words_taken order (a ∷ b ∷ c ∷ d ∷ e ∷ []) = refl
+words_taken order (a ∷ b ∷ c ∷ d ∷ e ∷ f ∷ []) = refl
+words_taken order (a ∷ b ∷ c ∷ d ∷ e ∷ f ∷ g ∷ []) = refl
+words_taken order (a ∷ b ∷ c ∷ d ∷ e ∷ f ∷ g ∷ h ∷ []) = refl
+words_taken order (a ∷ b ∷ c ∷ d ∷ e ∷ f ∷ g ∷ h ∷ i ∷ []) = refl
+words_taken order (a ∷ b ∷ c ∷ d ∷ e ∷ f ∷ g ∷ h ∷ i ∷ j ∷ []) = refl
+words_taken order (a ∷ b ∷ c ∷ d ∷ e ∷ f ∷ g ∷ h ∷ i ∷ j ∷ k ∷ []) = refl
+words_taken order (a ∷ b ∷ c ∷ d ∷ e ∷ f ∷ g ∷ h ∷ i ∷ j ∷ k ∷ l ∷ rest) = refl
 
 -- a header's bytes have its words, whatever comes after them
-words_front : (bytes par : List ℕ) → length bytes ≡ 12 → words_in bytes ≡ words_in (bytes ++ par)
-words_front bytes par l = ap (λ (w : List ℕ). words_in w) (sym (take_at bytes par 12 l)) ∙ words_taken (bytes ++ par)
+words_front : (order : ByteOrder) (bytes par : List ℕ) → length bytes ≡ 12 → words_in order bytes ≡ words_in order (bytes ++ par)
+words_front order bytes par l = ap (λ (w : List ℕ). words_in order w) (sym (take_at bytes par 12 l)) ∙ words_taken order (bytes ++ par)
 
 -- the header's bytes with the known ones, of which e differed
 pub record IsProbe (z : Zone) (header par bytes : List ℕ) (e : ℕ) : Type 0 where
@@ -160,7 +163,7 @@ exact r w = by (is_codeword r w) refl
 pub as_amended : (z : Zone) (at e r : ℕ) (bytes par : List ℕ) (b : Bool) → length bytes ≡ 12
     → is_codeword r (bytes ++ par) ≡ b
     → ring_near z at e (bytes ++ par) (within 0 (bytes ++ par) (nearest r (bytes ++ par)))
-    ≡ (if b then ring_if z at (words_in bytes) e else None)
+    ≡ (if b then ring_if z at (words_in z.byte_order bytes) e else None)
 as_amended z at e r bytes par b l c =
     ap (ring_near z at e (bytes ++ par)) (exact r (bytes ++ par)
     ∙ ap (λ (t : Bool). if t then Some (bytes ++ par) else None) c) ∙ by b
@@ -169,15 +172,15 @@ as_amended z at e r bytes par b l c =
     W = bytes ++ par
 
     by : (t : Bool) → ring_near z at e (bytes ++ par) (if t then Some (bytes ++ par) else None)
-        ≡ (if t then ring_if z at (words_in bytes) e else None)
+        ≡ (if t then ring_if z at (words_in z.byte_order bytes) e else None)
     by true =
-        ap (λ (n : ℕ). ring_if z at (words_in (bytes ++ par)) n)
+        ap (λ (n : ℕ). ring_if z at (words_in z.byte_order (bytes ++ par)) n)
         (let s : e + distance (bytes ++ par) (bytes ++ par) ≡ e = omega (arith, distance_self (bytes ++ par)) in s)
-        ∙ ap (λ (v : Words). ring_if z at v e) (sym (words_front bytes par l))
+        ∙ ap (λ (v : Words). ring_if z at v e) (sym (words_front z.byte_order bytes par l))
     by false = refl
 
 pub amended_same : (z : Zone) (at e r : ℕ) (bytes par : List ℕ) → length bytes ≡ 12 → (o : Option FoundRing)
-    → o ≡ ring_if z at (words_in bytes) e → is_codeword r (bytes ++ par) ≡ true
+    → o ≡ ring_if z at (words_in z.byte_order bytes) e → is_codeword r (bytes ++ par) ≡ true
     → o ≡ ring_near z at e (bytes ++ par) (within 0 (bytes ++ par) (nearest r (bytes ++ par)))
 amended_same z at e r bytes par l o h c = h ∙ sym (as_amended z at e r bytes par true l c)
 
@@ -187,7 +190,7 @@ pub amended_other : (z : Zone) (at e r : ℕ) (bytes par : List ℕ) → length 
 amended_other z at e r bytes par l c = sym (as_amended z at e r bytes par false l c)
 
 pub amended_unlike : (z : Zone) (at e r : ℕ) (bytes par : List ℕ) → length bytes ≡ 12
-    → None ≡ ring_if z at (words_in bytes) e
+    → None ≡ ring_if z at (words_in z.byte_order bytes) e
     → None ≡ ring_near z at e (bytes ++ par) (within 0 (bytes ++ par) (nearest r (bytes ++ par)))
 amended_unlike z at e r bytes par l h = by (is_codeword r (bytes ++ par)) refl
   where
@@ -217,24 +220,24 @@ module _ (z : Zone) (at e : ℕ) (word : List ℕ) where
 
   pub near_clean : (o : Option (List ℕ)) (q : Option FoundRing) (out : List ℕ) (k : ℕ) → k ≡ 12
       → Clean ≡ decoded_by word o → out ≡ take k (unwrap_or o word)
-      → q ≡ ring_if z at (words_in out) e → q ≡ ring_near z at e word o
+      → q ≡ ring_if z at (words_in z.byte_order out) e → q ≡ ring_near z at e word o
   unfolding decoded_by
   near_clean None q out k ek h eo eq = cc
   near_clean (Some c) q out k ek h eo eq =
-      eq ∙ ap (λ (w : List ℕ). ring_if z at (words_in w) e) (eo ∙ ap (λ m. take m c) ek)
-      ∙ ap (λ (v : Words). ring_if z at v e) (words_taken c)
-      ∙ ap (ring_if z at (words_in c))
+      eq ∙ ap (λ (w : List ℕ). ring_if z at (words_in z.byte_order w) e) (eo ∙ ap (λ m. take m c) ek)
+      ∙ ap (λ (v : Words). ring_if z at v e) (words_taken z.byte_order c)
+      ∙ ap (ring_if z at (words_in z.byte_order c))
       (let s : e ≡ e + distance word c = omega (arith, is_clean (distance word c) h) in s)
 
   pub near_fixed : (o : Option (List ℕ)) (q : Option FoundRing) (out : List ℕ) (k m n : ℕ) → k ≡ 12
       → Fixed m ≡ decoded_by word o → out ≡ take k (unwrap_or o word) → n ≡ e + m
-      → q ≡ ring_if z at (words_in out) n → q ≡ ring_near z at e word o
+      → q ≡ ring_if z at (words_in z.byte_order out) n → q ≡ ring_near z at e word o
   unfolding decoded_by
   near_fixed None q out k m n ek h eo en eq = cc
   near_fixed (Some c) q out k m n ek h eo en eq =
-      eq ∙ ap (λ (w : List ℕ). ring_if z at (words_in w) n) (eo ∙ ap (λ j. take j c) ek)
-      ∙ ap (λ (v : Words). ring_if z at v n) (words_taken c)
-      ∙ ap (ring_if z at (words_in c))
+      eq ∙ ap (λ (w : List ℕ). ring_if z at (words_in z.byte_order w) n) (eo ∙ ap (λ j. take j c) ek)
+      ∙ ap (λ (v : Words). ring_if z at v n) (words_taken z.byte_order c)
+      ∙ ap (ring_if z at (words_in z.byte_order c))
       (let s : n ≡ e + distance word c = omega (arith, en, is_fixed m (distance word c) h) in s)
 
 -- no more places than the bound
@@ -263,14 +266,20 @@ append_zeros [] w hv hw k l = hw k l
 append_zeros (b ∷ v) w hv hw zero l = hv 0 (omega arith)
 append_zeros (b ∷ v) w hv hw (suc k) l = append_zeros v w (λ j m. hv (suc j) (omega arith)) hw k (omega arith)
 
-no_ring : (z : Zone) (at n : ℕ) → ring_if z at (words_in (replicate 12 0)) n ≡ None
-no_ring z at n = by ((0 == z.sig) && nat_le 0 0 && nat_le 0 z.cap)
+-- zeros are zero words, in either order
+no_words_in : (order : ByteOrder) → words_in order (replicate 12 0) ≡ record { sig = 0; start = 0; size = 0 }
+no_words_in Little = refl
+no_words_in Big = refl
+
+no_ring : (z : Zone) (at n : ℕ) → ring_if z at (words_in z.byte_order (replicate 12 0)) n ≡ None
+no_ring z at n = ap (λ (v : Words). ring_if z at v n) (no_words_in z.byte_order)
+    ∙ by ((0 == z.sig) && nat_le 0 0 && nat_le 0 z.cap)
   where
     by : (b : Bool)
         → ◌≡◌ {A = Option FoundRing} (if b && false then Some (record {
           at = at;
           zone = z.name;
-          words = words_in (replicate 12 0);
+          words = record { sig = 0; start = 0; size = 0 };
           corrected = n;
         }) else None) None
     by true = refl
@@ -288,8 +297,8 @@ zeros_none z at header par l hh hp =
     ap (λ (b : Bool). nearest_if b z.parity (header ++ par)) code in
     let zeros : header ≡ replicate 12 0 = replicate_from_places 0 header hh ∙ ap (λ (k : ℕ). replicate k 0) l in
     let d : ℕ = distance (header ++ par) (header ++ par) in
-    sym (ap (λ (w : List ℕ). ring_if z at (words_in w) d) zeros ∙ no_ring z at d)
-    ∙ one_near z at (header ++ par) (header ++ par) (words_in header) d (words_front header par l) n refl
+    sym (ap (λ (w : List ℕ). ring_if z at (words_in z.byte_order w) d) zeros ∙ no_ring z at d)
+    ∙ one_near z at (header ++ par) (header ++ par) (words_in z.byte_order header) d (words_front z.byte_order header par l) n refl
 
 -- ---- without parity
 pub none_of_coder : (n : ℕ) (o : Option ℕ) → o ≡ (if n == 0 then None else Some n) → o ≡ None → n ≡ 0
@@ -300,11 +309,11 @@ none_of_coder n o e h = by (n == 0) refl (sym e ∙ h)
     by false t k = cc
 
 pub no_parity : (z : Zone) (at : ℕ) (header par : List ℕ) (o : Option FoundRing) → length header ≡ 12 → z.parity ≡ 0
-    → o ≡ ring_if z at (words_in header) 0 → o ≡ ring_in z at (header ++ par)
+    → o ≡ ring_if z at (words_in z.byte_order header) 0 → o ≡ ring_in z at (header ++ par)
 unfolding nearest is_codeword
 no_parity z at header par o l e h =
     let code : is_codeword z.parity (header ++ par) ≡ true = ap (λ (r : ℕ). is_codeword r (header ++ par)) e in
     let n : nearest z.parity (header ++ par) ≡ Some (header ++ par) =
     ap (λ (b : Bool). nearest_if b z.parity (header ++ par)) code in
-    h ∙ one_near z at (header ++ par) (header ++ par) (words_in header) 0 (words_front header par l) n
+    h ∙ one_near z at (header ++ par) (header ++ par) (words_in z.byte_order header) 0 (words_front z.byte_order header par l) n
     (distance_self (header ++ par))

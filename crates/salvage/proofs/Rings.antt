@@ -26,33 +26,33 @@ none_is z at word no_ring = by (ring_in z at word) refl
     by (Some ring) e = let h = (ring_in_is z at word ring).0 e in absurd (no_ring h.0 h.1)
 
 -- where no codeword but c can be a ring's, its words tell
-pub found_is : (z : Zone) (at : ℕ) (word c : List ℕ) (w : Words) (n : ℕ) → w ≡ words_in c
-    → (IsRingOf z (words_in c) → IsRingBy z word c × (distance word c ≡ n))
+pub found_is : (z : Zone) (at : ℕ) (word c : List ℕ) (w : Words) (n : ℕ) → w ≡ words_in z.byte_order c
+    → (IsRingOf z (words_in z.byte_order c) → IsRingBy z word c × (distance word c ≡ n))
     → ((d : List ℕ) → IsRingBy z word d → d ≡ c) → ring_if z at w n ≡ ring_in z at word
 found_is z at word c w n e is only =
-    ap (λ (v : Words). ring_if z at v n) e ∙ by (is_ring_of z (words_in c)) refl
+    ap (λ (v : Words). ring_if z at v n) e ∙ by (is_ring_of z (words_in z.byte_order c)) refl
   where
-    by : (t : Bool) → is_ring_of z (words_in c) ≡ t
+    by : (t : Bool) → is_ring_of z (words_in z.byte_order c) ≡ t
         → ◌≡◌ {A = Option FoundRing}
-        (if t then Some (record { at = at; zone = z.name; words = words_in c; corrected = n }) else None)
+        (if t then Some (record { at = at; zone = z.name; words = words_in z.byte_order c; corrected = n }) else None)
         (ring_in z at word)
     by true t =
-        let ring : FoundRing = record { at = at; zone = z.name; words = words_in c; corrected = n } in
-        let h = is (is_ring_of-true z (words_in c) t) in
+        let ring : FoundRing = record { at = at; zone = z.name; words = words_in z.byte_order c; corrected = n } in
+        let h = is (is_ring_of-true z (words_in z.byte_order c) t) in
         sym ((ring_in_is z at word ring).1 (
           c,
           h.0,
           ap (λ (m : ℕ).
-              let r : FoundRing = record { at = at; zone = z.name; words = words_in c; corrected = m } in r) (sym h.1),
+              let r : FoundRing = record { at = at; zone = z.name; words = words_in z.byte_order c; corrected = m } in r) (sym h.1),
         ))
     by false t = none_is z at word (λ d h.
         let same : d ≡ c = only d h in
-        let r : is_ring_of z (words_in c) ≡ true =
-        is_ring_of-is z (words_in c) (subst (λ x. IsRingOf z (words_in x)) same h.words) in
+        let r : is_ring_of z (words_in z.byte_order c) ≡ true =
+        is_ring_of-is z (words_in z.byte_order c) (subst (λ x. IsRingOf z (words_in z.byte_order x)) same h.words) in
         let bad : true ≡ false = sym r ∙ t in cc)
 
 -- by the nearest codeword
-pub one_near : (z : Zone) (at : ℕ) (word c : List ℕ) (w : Words) (n : ℕ) → w ≡ words_in c
+pub one_near : (z : Zone) (at : ℕ) (word c : List ℕ) (w : Words) (n : ℕ) → w ≡ words_in z.byte_order c
     → nearest z.parity word ≡ Some c → distance word c ≡ n → ring_if z at w n ≡ ring_in z at word
 one_near z at word c w n ew e d =
     found_is z at word c w n ew (λ ring. (record { nearest = e; words = ring }, d))
@@ -81,8 +81,8 @@ module _ (z : Zone) (at : ℕ) (word : List ℕ) (valid : IsValidZone z) (is_wor
 
       close_to : (c : List ℕ) → nearest z.parity (amended z word) ≡ Some c
           → distance (amended z word) c ≤ (z.parity / 2 - amends z word)
-          → ring_if z at (words_in c) (amends z word + distance (amended z word) c) ≡ ring_in z at word
-      close_to c n l = found_is z at word c (words_in c) (amends z word + distance (amended z word) c) refl
+          → ring_if z at (words_in z.byte_order c) (amends z word + distance (amended z word) c) ≡ ring_in z at word
+      close_to c n l = found_is z at word c (words_in z.byte_order c) (amends z word + distance (amended z word) c) refl
           (λ ring.
           let by : IsRingBy z word c = (known_is z word c valid is_word).1
           (record { few = few; nearest = n; close = l; words = ring }) in

@@ -5,6 +5,9 @@ use Rattle.std.proofs.lemmas.List.{append-nil}
 use Rattle.std.proofs.lemmas.List.Folds.{list_any-append}
 use Rattle.std.proofs.lemmas.Bool.{and_parts}
 use Rattle.zone_spec.specs.declared.Zone.{Zone}
+use Rattle.zone_spec.specs.declared.params.ByteOrder.{ByteOrder}
+use Rattle.zone_spec.specs.declared.params.ByteOrder.TheVariants.{Little, Big}
+use Rattle.zone_spec.specs.Orders.{is_same_order}
 use Rattle.salvage_spec.specs.Rings.{is_alike, shapes}
 use Rattle.salvage.specs.Shapes.{has_shape, with_shape}
 
@@ -20,11 +23,20 @@ record IsAlike (x z : Zone) : Type 0 where
   parity : x.parity ≡ z.parity
   block : x.block ≡ z.block
   sig : x.sig ≡ z.sig
+  byte_order : x.byte_order ≡ z.byte_order
+
+same_order : (a b : ByteOrder) → is_same_order a b ≡ true → a ≡ b
+same_order Little Little h = refl
+same_order Big Big h = refl
+same_order Little Big h = cc
+same_order Big Little h = cc
 
 alike : (x z : Zone) → is_alike x z ≡ true → IsAlike x z
 alike x z h =
+    let o = and_parts ((x.size == z.size) && (x.cap == z.cap) && (x.blocks == z.blocks) && (x.parity == z.parity)
+    && (x.block == z.block) && (x.sig == z.sig)) (is_same_order x.byte_order z.byte_order) h in
     let a = and_parts ((x.size == z.size) && (x.cap == z.cap) && (x.blocks == z.blocks) && (x.parity == z.parity)
-    && (x.block == z.block)) (x.sig == z.sig) h in
+    && (x.block == z.block)) (x.sig == z.sig) o.0 in
     let b = and_parts ((x.size == z.size) && (x.cap == z.cap) && (x.blocks == z.blocks) && (x.parity == z.parity))
     (x.block == z.block) a.0 in
     let c = and_parts ((x.size == z.size) && (x.cap == z.cap) && (x.blocks == z.blocks)) (x.parity == z.parity) b.0 in
@@ -37,23 +49,32 @@ alike x z h =
       parity = eqb-true x.parity z.parity c.1;
       block = eqb-true x.block z.block b.1;
       sig = eqb-true x.sig z.sig a.1;
+      byte_order = same_order x.byte_order z.byte_order o.1;
     }
 
 same_test : (s x z : Zone) → is_alike z x ≡ true → is_alike s x ≡ is_alike s z
 same_test s x z h =
     let a = alike z x h in
     sym (ap (λ (n : ℕ). (s.size == n) && (s.cap == z.cap) && (s.blocks == z.blocks) && (s.parity == z.parity)
-    && (s.block == z.block) && (s.sig == z.sig)) a.size
+    && (s.block == z.block) && (s.sig == z.sig)
+    && is_same_order s.byte_order z.byte_order) a.size
     ∙ ap (λ (n : ℕ). (s.size == x.size) && (s.cap == n) && (s.blocks == z.blocks) && (s.parity == z.parity)
-    && (s.block == z.block) && (s.sig == z.sig)) a.cap
+    && (s.block == z.block) && (s.sig == z.sig)
+    && is_same_order s.byte_order z.byte_order) a.cap
     ∙ ap (λ (n : ℕ). (s.size == x.size) && (s.cap == x.cap) && (s.blocks == n) && (s.parity == z.parity)
-    && (s.block == z.block) && (s.sig == z.sig)) a.blocks
+    && (s.block == z.block) && (s.sig == z.sig)
+    && is_same_order s.byte_order z.byte_order) a.blocks
     ∙ ap (λ (n : ℕ). (s.size == x.size) && (s.cap == x.cap) && (s.blocks == x.blocks) && (s.parity == n)
-    && (s.block == z.block) && (s.sig == z.sig)) a.parity
+    && (s.block == z.block) && (s.sig == z.sig)
+    && is_same_order s.byte_order z.byte_order) a.parity
     ∙ ap (λ (n : ℕ). (s.size == x.size) && (s.cap == x.cap) && (s.blocks == x.blocks) && (s.parity == x.parity)
-    && (s.block == n) && (s.sig == z.sig)) a.block
+    && (s.block == n) && (s.sig == z.sig)
+    && is_same_order s.byte_order z.byte_order) a.block
     ∙ ap (λ (n : ℕ). (s.size == x.size) && (s.cap == x.cap) && (s.blocks == x.blocks) && (s.parity == x.parity)
-    && (s.block == x.block) && (s.sig == n)) a.sig)
+    && (s.block == x.block) && (s.sig == n)
+    && is_same_order s.byte_order z.byte_order) a.sig
+    ∙ ap (λ order. (s.size == x.size) && (s.cap == x.cap) && (s.blocks == x.blocks) && (s.parity == x.parity)
+    && (s.block == x.block) && (s.sig == x.sig) && is_same_order s.byte_order order) a.byte_order)
 
 same_shape : (found : List Zone) (x z : Zone) → is_alike z x ≡ true → has_shape found x ≡ has_shape found z
 same_shape [] x z h = refl

@@ -15,4 +15,4 @@ ring_if z at w n =
 -- the ring of a codeword near an amended word, of which so many bytes differed
 abbrev pub ring_near : Zone → ℕ → ℕ → List ℕ → Option (List ℕ) → Option FoundRing
 ring_near z at amends word None = None
-ring_near z at amends word (Some c) = ring_if z at (words_in c) (amends + distance word c)
+ring_near z at amends word (Some c) = ring_if z at (words_in z.byte_order c) (amends + distance word c)

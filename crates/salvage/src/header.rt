@@ -1,14 +1,12 @@
 // Whether a header's word is a ring: the known bytes are put in first, and most words are decided without a decoder.
 ghost use Rattle.std.specs.Prelude.{◌≡◌, ◌↔◌, ◌+◌, ◌-◌, ◌/◌, ◌<◌, ◌≤◌, ℕ, ◌++◌, length, slice_index, unwrap_or, IsTrue};
 ghost use Rattle.std.specs.Prelude.{Some, None, if◌then◌else◌, ◌==◌};
-ghost use Rattle.std.specs.Int.{from_le_bytes};
-ghost use Rattle.std.proofs.Common.{w32};
 ghost use Rattle.code_spec.specs.Code.{distance, nearest};
 ghost use Rattle.rs_decode.specs.Decoding.{within};
 ghost use Rattle.zone_spec.specs.Zones.{IsValidZone};
 ghost use Rattle.zone_spec.specs.Parts.{words_in};
 ghost use Rattle.salvage_spec.specs.Rings.{ring_in};
-ghost use Rattle.salvage_laws.specs.Known.{known, put_in};
+ghost use Rattle.salvage_laws.specs.Known.{known, known_by, put_in};
 ghost use Rattle.salvage.specs.Headers.{ring_if, ring_near};
 ghost use Rattle.salvage.specs.Sieves.{IsSieveOf};
 
@@ -17,7 +15,7 @@ use arrayvec::ArrayVec;
 use rs_decode::{Decoded, Fix, decode_within};
 use rs_encode::Parity;
 use salvage_spec::FoundRing;
-use zone_spec::{Words, Zone};
+use zone_spec::{ByteOrder, Words, Zone};
 
 fn zero_where(is_known: bool) -> Option<u8>
     ensures { result ≡ if is_known then Some 0 else None }
@@ -25,25 +23,40 @@ fn zero_where(is_known: bool) -> Option<u8>
     if is_known { Some(0) } else { None }
 }
 
+/// The one in the little-endian order, or the other.
+fn known_by(order: ByteOrder, one: Option<u8>, other: Option<u8>) -> Option<u8>
+    ensures { result ≡ known_by order one other }
+{
+    match order {
+        ByteOrder::Little => one,
+        ByteOrder::Big => other,
+    }
+}
+
 /// The bytes of a ring's header that are known before it is read.
 pub fn known_bytes(zone: &Zone) -> [Option<u8>; 12]
     ensures { result ≡ known zone.now }
 {
-    let sig = zone.sig.to_le_bytes();
+    let order = zone.byte_order;
+    let sig = order.bytes(zone.sig);
     let third = zero_where(zone.cap < 65536);
+    let a = known_by(order, None, Some(0));
+    let b = known_by(order, None, third);
+    let c = known_by(order, third, None);
+    let d = known_by(order, Some(0), None);
     [
         Some(sig[0]),
         Some(sig[1]),
         Some(sig[2]),
         Some(sig[3]),
-        None,
-        None,
-        third,
-        Some(0),
-        None,
-        None,
-        third,
-        Some(0),
+        a,
+        b,
+        c,
+        d,
+        a,
+        b,
+        c,
+        d,
     ]
 }
 
@@ -79,31 +92,24 @@ pub fn amend(expected: &[Option<u8>], bytes: &mut [u8]) -> u8
     count
 }
 
-fn word_at(bytes: &[u8]) -> u32
-    requires { length bytes.now ≡ 4 }
-    ensures { result ≡ from_le_bytes w32 bytes.now }
-{
-    u32::from_le_bytes([bytes[0], bytes[1], bytes[2], bytes[3]])
-}
-
 /// The words in a header's 12 bytes.
-fn words_of(bytes: &[u8]) -> Words
+fn words_of(order: ByteOrder, bytes: &[u8]) -> Words
     requires { length bytes.now ≡ 12 }
-    ensures { result ≡ words_in bytes.now }
+    ensures { result ≡ words_in order bytes.now }
 {
     Words {
-        sig: word_at(&bytes[0..4]),
-        start: word_at(&bytes[4..8]),
-        size: word_at(&bytes[8..12]),
+        sig: order.word(&bytes[0..4]),
+        start: order.word(&bytes[4..8]),
+        size: order.word(&bytes[8..12]),
     }
 }
 
 /// The ring of a header's 12 bytes, where its words are one of the zone's shape that is not empty.
 pub fn ring_with(zone: &Zone, at: u32, bytes: &[u8], corrected: u8) -> Option<FoundRing>
     requires { length bytes.now ≡ 12 }
-    ensures { result ≡ ring_if zone.now at (words_in bytes.now) corrected }
+    ensures { result ≡ ring_if zone.now at (words_in zone.now.byte_order bytes.now) corrected }
 {
-    let words = words_of(bytes);
+    let words = words_of(zone.byte_order, bytes);
     if words.sig == zone.sig
         && words.start <= words.size
         && words.size <= zone.cap

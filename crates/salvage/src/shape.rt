@@ -115,6 +115,7 @@ impl Shape {
             && own.parity == zone.parity
             && own.block == zone.block
             && own.sig == zone.sig
+            && own.byte_order == zone.byte_order
     }
 
     /// The ring at `at` by its header's bytes and their parity, where it is one of this shape.

@@ -213,7 +213,11 @@ fn block_of(
 fn spare(known: &[Option<u8>; 12]) -> usize
     ensures { result ≤ 5 }
 {
-    if known[6].is_some() { 3 } else { 5 }
+    if known[5].is_some() || known[6].is_some() {
+        3
+    } else {
+        5
+    }
 }
 
 /// Where the block ends that begins at `from` and tells of so many errors. The first block has a header's known bytes

@@ -40,7 +40,7 @@ amended_word z word w = word-put_in (known z) word (12 + z.parity) (are_known z)
 
 -- a ring's codeword is as far as the known bytes that differ and the amended word together
 pub split : (z : Zone) (word c : List ℕ) → IsValidZone z → IsWord (12 + z.parity) word → IsWord (12 + z.parity) c
-    → IsRingOf z (words_in c) → distance word c ≡ amends z word + distance (amended z word) c
+    → IsRingOf z (words_in z.byte_order c) → distance word c ≡ amends z word + distance (amended z word) c
 split z word c v w cw is =
     distance-put_in (known z) word c (w.0 ∙ sym cw.0) (has_known z c v (omega (arith, cw.0)) cw.1 is)
 
@@ -157,20 +157,20 @@ pub ring_in_is : RingInIs
 unfolding ring_in
 ring_in_is z at word ring = (found, finds)
   where
-    if_ring : (c : List ℕ) (t : Bool) → is_ring_of z (words_in c) ≡ t → nearest z.parity word ≡ Some c
+    if_ring : (c : List ℕ) (t : Bool) → is_ring_of z (words_in z.byte_order c) ≡ t → nearest z.parity word ≡ Some c
         → (if t then Some (ring_of z at word c) else None) ≡ Some ring
         → (c : List ℕ) × IsRingBy z word c × (ring ≡ ring_of z at word c)
-    if_ring c true e n h = (c, record { nearest = n; words = is_ring_of-true z (words_in c) e }, cc)
+    if_ring c true e n h = (c, record { nearest = n; words = is_ring_of-true z (words_in z.byte_order c) e }, cc)
     if_ring c false e n h = cc
 
     by : (o : Option (List ℕ)) → nearest z.parity word ≡ o → found_by z at word o ≡ Some ring
         → (c : List ℕ) × IsRingBy z word c × (ring ≡ ring_of z at word c)
     by None e h = cc
-    by (Some c) e h = if_ring c (is_ring_of z (words_in c)) refl e h
+    by (Some c) e h = if_ring c (is_ring_of z (words_in z.byte_order c)) refl e h
 
     found : ring_in z at word ≡ Some ring → (c : List ℕ) × IsRingBy z word c × (ring ≡ ring_of z at word c)
     found h = by (nearest z.parity word) refl h
 
     finds : (c : List ℕ) × IsRingBy z word c × (ring ≡ ring_of z at word c) → ring_in z at word ≡ Some ring
     finds h =
-        rw h.1.nearest (rw (is_ring_of-is z (words_in h.0) h.1.words) (ap (λ (x : FoundRing). Some x) (sym h.2)))
+        rw h.1.nearest (rw (is_ring_of-is z (words_in z.byte_order h.0) h.1.words) (ap (λ (x : FoundRing). Some x) (sym h.2)))

@@ -27,7 +27,7 @@ ManyAmends = (z : Zone) (word c : List ℕ) → IsValidZone z → IsWord (12 + z
 pub record IsRingAsAmended (z : Zone) (word c : List ℕ) : Type 0 where
   pub same : c ≡ amended z word
   pub parity : parity_of z.parity (take 12 c) ≡ drop 12 c
-  pub words : IsRingOf z (words_in c)
+  pub words : IsRingOf z (words_in z.byte_order c)
 
 -- with as many as half the parity a ring is the amended word itself
 abbrev pub AllAmends : Type 0

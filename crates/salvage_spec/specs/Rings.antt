@@ -8,6 +8,7 @@ use Rattle.zone_spec.specs.declared.Zone.{Zone}
 use Rattle.zone_spec.specs.declared.ZoneName.{ZoneName}
 use Rattle.zone_spec.specs.declared.Words.{Words}
 use Rattle.code_spec.specs.Code.{distance, nearest}
+use Rattle.zone_spec.specs.Orders.{is_same_order}
 use Rattle.zone_spec.specs.Layouts.{zone_place}
 use Rattle.zone_spec.specs.Parts.{Header, part_word, words_in}
 use Rattle.zone_spec.specs.Reading.{IsRing, ZoneReading, zone_reading}
@@ -18,7 +19,7 @@ use Rattle.salvage_spec.specs.declared.RingFault.TheVariants.{NoZone, NoRing}
 -- whether two zones have one shape: they differ at most in name and place
 abbrev pub is_alike : Zone → Zone → Bool
 is_alike x z = (x.size == z.size) && (x.cap == z.cap) && (x.blocks == z.blocks) && (x.parity == z.parity)
-    && (x.block == z.block) && (x.sig == z.sig)
+    && (x.block == z.block) && (x.sig == z.sig) && is_same_order x.byte_order z.byte_order
 
 -- the shapes of these zones, each by its first zone
 unfoldable pub shapes : List Zone → List Zone
@@ -46,15 +47,15 @@ is_ring_of z w = (w.sig == z.sig) && nat_le w.start w.size && nat_le w.size z.ca
 -- a header's word is a ring by its nearest codeword, where it has one with such words
 pub record IsRingBy (z : Zone) (word c : List ℕ) : Type 0 where
   pub nearest : nearest z.parity word ≡ Some c
-  pub words : IsRingOf z (words_in c)
+  pub words : IsRingOf z (words_in z.byte_order c)
 
 -- the ring of a codeword
 abbrev pub ring_of : Zone → ℕ → List ℕ → List ℕ → FoundRing
-ring_of z at word c = record { at = at; zone = z.name; words = words_in c; corrected = distance word c }
+ring_of z at word c = record { at = at; zone = z.name; words = words_in z.byte_order c; corrected = distance word c }
 
 abbrev pub found_by : Zone → ℕ → List ℕ → Option (List ℕ) → Option FoundRing
 found_by z at word None = None
-found_by z at word (Some c) = if is_ring_of z (words_in c) then Some (ring_of z at word c) else None
+found_by z at word (Some c) = if is_ring_of z (words_in z.byte_order c) then Some (ring_of z at word c) else None
 
 -- the ring of a header's word, where it is one
 unfoldable pub ring_in : Zone → ℕ → List ℕ → Option FoundRing

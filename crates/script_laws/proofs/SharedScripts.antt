@@ -51,7 +51,7 @@ more_and_more h g f xs ys m n = record {
 }
 
 next_zone : (h : History) (o : SharedOperation) → shared_zone (and_then h o) ≡ operated h.zone (shared_zone h) o
-next_zone h o = one_more_operation h.zone (opened (zone_bytes h.zone h.image)) h.operations o
+next_zone h o = one_more_operation h.zone (opened h.zone (zone_bytes h.zone h.image)) h.operations o
 
 more_reserved : (h g : History) (payload : List ℕ) (o : Option SharedRefusal)
     → refusal h.zone (shared_zone h).calls (length payload) ≡ o → reserves h payload o ≡ Ok g → HasMore h g payload
@@ -135,8 +135,8 @@ more_lines ran (x ∷ xs) none =
 
 record Reads (h : History) (z : Zone) (image bytes left : List ℕ) : Type 0 where
   whole : open_count (shared_zone h).calls ≡ 0 → log_in z left ≡ last_items z.cap (log_in z image ++ bytes)
-  torn : (i place : ℕ) → slice_get (log_places (standing_words (zone_bytes z left)).start
-      (standing_words (zone_bytes z left)).size) i ≡ Some place → IsOfNoOpenCall z (shared_zone h) place
+  torn : (i place : ℕ) → slice_get (log_places (standing_words z (zone_bytes z left)).start
+      (standing_words z (zone_bytes z left)).size) i ≡ Some place → IsOfNoOpenCall z (shared_zone h) place
       → slice_index (log_in z left) i ≡ slice_index (last_items z.cap (log_in z image ++ bytes)) i
   before : take z.at left ≡ take z.at image
   behind : drop (z.at + z.size) left ≡ drop (z.at + z.size) image
@@ -171,8 +171,8 @@ module _ (h : History) (can : CanShare h.zone (zone_bytes h.zone h.image)) where
         whole = log_left h can;
         torn = λ i place e free. ap (λ (bytes : List ℕ). slice_index (zone_reading h.zone bytes).log i) is
             ∙ log_differs_at_open_calls h.zone (zone_bytes h.zone h.image) h.operations can i place
-            (subst (λ (bytes : List ℕ). slice_get (log_places (standing_words bytes).start
-            (standing_words bytes).size) i ≡ Some place) is e) free;
+            (subst (λ (bytes : List ℕ). slice_get (log_places (standing_words h.zone bytes).start
+            (standing_words h.zone bytes).size) i ≡ Some place) is e) free;
         before = ap₂ take front-long (append_assoc front (shared_zone h).image back)
             ∙ take-append_seam front ((shared_zone h).image ++ back);
         behind = ap (λ n. drop n (image_left h)) both-long

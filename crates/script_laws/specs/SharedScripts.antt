@@ -31,7 +31,7 @@ full_log z image lines = last_items z.cap (log_in z image ++ flat_map payload_of
 pub record ReadsShared (z : Zone) (image : List ℕ) (lines : List Line) (left : List ℕ) : Type 0 where
   pub whole : open_count (shared_zone (shared_ran z image lines).history).calls ≡ 0
       → log_in z left ≡ full_log z image lines
-  pub torn : (i place : ℕ) → let words = standing_words (zone_bytes z left) in
+  pub torn : (i place : ℕ) → let words = standing_words z (zone_bytes z left) in
       slice_get (log_places words.start words.size) i ≡ Some place
       → IsOfNoOpenCall z (shared_zone (shared_ran z image lines).history) place
       → slice_index (log_in z left) i ≡ slice_index (full_log z image lines) i

@@ -105,5 +105,5 @@ calls_text calls opened start size =
 abbrev pub shared_text : Zone → SharedZone → Text
 shared_text z shared =
     let opened = open_calls z shared in
-    let words = standing_words shared.image in
+    let words = standing_words z shared.image in
     calls_text (length shared.calls) (length opened) words.start words.size ++ flat_map open_text opened

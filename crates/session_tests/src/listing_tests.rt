@@ -3,7 +3,7 @@ use outside::Bytes;
 use prz_read::{Logs, Reading, State, Words};
 use ram_session::{LineError, content_of, listing};
 use ramoops_layout::types::Layout;
-use ramoops_layout::{Order, Params, layout};
+use ramoops_layout::{ByteOrder, Order, Params, layout};
 use script_spec::Cause;
 use std::alloc::{AllocError, Global};
 use std::test::Fail;
@@ -24,6 +24,7 @@ fn params(mem: u64, dump: u64, pmsg: u64, ecc: u64) -> Params {
         ecc_ftrace: ecc,
         ecc_pmsg: ecc,
         order: Order::FtracePmsg,
+        byte_order: ByteOrder::Little,
     }
 }
 

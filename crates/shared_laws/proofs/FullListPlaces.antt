@@ -7,7 +7,6 @@ use Rattle.std.proofs.lemmas.List.{get_or_append_left, get_or-append_right}
 use Rattle.std.proofs.lemmas.Bool.{cases_lt, cases_eq, cases_order, ltb-true}
 use Rattle.std.proofs.Math.Nat.{mod-eq_of_lt, mod-add-mod, add-mod_right}
 use Rattle.std.specs.Prelude.{slice_get, slice_index}
-use Rattle.std.specs.Int.{to_le_bytes}
 use Rattle.zone_spec.specs.declared.Zone.{Zone}
 use Rattle.zone_spec.specs.declared.Words.{Words}
 use Rattle.zone_spec.specs.Parts.{standing_words}
@@ -26,10 +25,11 @@ use Rattle.shared_laws.proofs.Places.{apart}
 use Rattle.shared_laws.proofs.Counts.{open_call-some, more_count, set_count, accepted}
 use Rattle.shared_laws.proofs.PlainZones.{plain_item, plain_length, put_start, put_size, put_sig, put_data, byte_words}
 use Rattle.shared_laws.proofs.PlainZones.{byte_there, byte_elsewhere}
+use Rattle.zone_spec.specs.WordBytes.{word_bytes}
 
 -- the place of an item of the log at the opening and of all payloads, end to end
 abbrev pub round : Zone → List ℕ → ℕ → ℕ
-round z image g = (((standing_words image).start + (z.cap - (standing_words image).size)) + g) % z.cap
+round z image g = (((standing_words z image).start + (z.cap - (standing_words z image).size)) + g) % z.cap
 
 -- the log at the opening and all payloads
 abbrev pub whole : Zone → List ℕ → List SharedCall → List ℕ
@@ -42,18 +42,18 @@ IsStored calls l g =
     → j < c.stored
 
 pub record Keeps (z : Zone) (image : List ℕ) (shared : SharedZone) : Type 0 where
-  pub start : shared.start ≡ (standing_words image).start
+  pub start : shared.start ≡ (standing_words z image).start
   pub total : length shared.image ≡ z.size
-  pub signed : (standing_words shared.image).sig ≡ z.sig
-  pub word_start : (standing_words shared.image).start
-      ≡ ((standing_words image).start + length (all_bytes shared.calls)) % z.cap
-  pub word_size : (standing_words shared.image).size
-      ≡ min z.cap ((standing_words image).size + length (all_bytes shared.calls))
+  pub signed : (standing_words z shared.image).sig ≡ z.sig
+  pub word_start : (standing_words z shared.image).start
+      ≡ ((standing_words z image).start + length (all_bytes shared.calls)) % z.cap
+  pub word_size : (standing_words z shared.image).size
+      ≡ min z.cap ((standing_words z image).size + length (all_bytes shared.calls))
   pub window : held shared.calls ≤ z.cap
   pub seats : open_count shared.calls ≤ 64
-  pub bytes : (g : ℕ) → g < (standing_words image).size + length (all_bytes shared.calls)
-      → (standing_words image).size + length (all_bytes shared.calls) ≤ g + z.cap
-      → IsStored shared.calls (standing_words image).size g
+  pub bytes : (g : ℕ) → g < (standing_words z image).size + length (all_bytes shared.calls)
+      → (standing_words z image).size + length (all_bytes shared.calls) ≤ g + z.cap
+      → IsStored shared.calls (standing_words z image).size g
       → get_or shared.image (12 + round z image g) 0 ≡ get_or (whole z image shared.calls) g 0
 
 module _ (z : Zone) (image : List ℕ) (can : CanShare z image) where
@@ -66,7 +66,7 @@ module _ (z : Zone) (image : List ℕ) (can : CanShare z image) where
   pub small_cap : z.cap < 2 ^ 32
   small_cap = omega (arith, room, can.valid.at_most)
 
-  pub log_length : length (zone_reading z image).log ≡ (standing_words image).size
+  pub log_length : length (zone_reading z image).log ≡ (standing_words z image).size
   log_length = plain_length z image can.valid can.parity can.signed can.ring can.is_open
 
   pub round_below : (g : ℕ) → round z image g < z.cap
@@ -75,10 +75,10 @@ module _ (z : Zone) (image : List ℕ) (can : CanShare z image) where
   -- ---- places
 
   -- the place of a call's byte is that of its item
-  pub call_round : (shared : SharedZone) (t j : ℕ) → shared.start ≡ (standing_words image).start
-      → call_place z shared t j ≡ round z image ((standing_words image).size + (before shared.calls t + j))
+  pub call_round : (shared : SharedZone) (t j : ℕ) → shared.start ≡ (standing_words z image).start
+      → call_place z shared t j ≡ round z image ((standing_words z image).size + (before shared.calls t + j))
   call_round shared t j e =
-      let w : Words = standing_words image in
+      let w : Words = standing_words z image in
       let m : (w.start + (z.cap - w.size)) + (w.size + (before shared.calls t + j))
       ≡ ((shared.start + before shared.calls t) + j) + z.cap = omega (arith, can.ring.1) in
       sym (ap (λ n. n % z.cap) m ∙ add-mod_right ((shared.start + before shared.calls t) + j) z.cap)
@@ -87,7 +87,7 @@ module _ (z : Zone) (image : List ℕ) (can : CanShare z image) where
   pub round_apart : (g h n : ℕ) → g < n → h < n → n ≤ g + z.cap → n ≤ h + z.cap → g ≢ h
       → round z image g ≢ round z image h
   round_apart g h n a b c d ne e =
-      let s : ℕ = (standing_words image).start + (z.cap - (standing_words image).size) in
+      let s : ℕ = (standing_words z image).start + (z.cap - (standing_words z image).size) in
       elim (cases_order g h) [
         | inl k ↦ ne k
         | inr o ↦ elim o [
@@ -99,19 +99,19 @@ module _ (z : Zone) (image : List ℕ) (can : CanShare z image) where
   -- an open call's items are among the last cap
   pub open_item : (shared : SharedZone) (t j : ℕ) (c : SharedCall) → held shared.calls ≤ z.cap
       → slice_get shared.calls t ≡ Some c → is_open_call c ≡ true → j < length c.payload
-      → ((standing_words image).size + (before shared.calls t + j)
-      < (standing_words image).size + length (all_bytes shared.calls))
-      × ((standing_words image).size + length (all_bytes shared.calls)
-      ≤ ((standing_words image).size + (before shared.calls t + j)) + z.cap)
+      → ((standing_words z image).size + (before shared.calls t + j)
+      < (standing_words z image).size + length (all_bytes shared.calls))
+      × ((standing_words z image).size + length (all_bytes shared.calls)
+      ≤ ((standing_words z image).size + (before shared.calls t + j)) + z.cap)
   open_item shared t j c h e o l =
       (omega (arith, within shared.calls t c e), omega (arith, open_is_held shared.calls t c e o))
 
   -- ---- the opening
 
-  pub keeps_opened : Keeps z image (opened image)
+  pub keeps_opened : Keeps z image (opened z image)
   unfolding since_oldest_open
   keeps_opened =
-      let w : Words = standing_words image in
+      let w : Words = standing_words z image in
       record {
         start = refl;
         total = can.sized;
@@ -130,7 +130,7 @@ module _ (z : Zone) (image : List ℕ) (can : CanShare z image) where
 
   module _ (shared : SharedZone) (kept : Keeps z image shared) where
     -- an item of what was there before
-    whole_left : (payload : List ℕ) (g : ℕ) → g < (standing_words image).size + length (all_bytes shared.calls)
+    whole_left : (payload : List ℕ) (g : ℕ) → g < (standing_words z image).size + length (all_bytes shared.calls)
         → get_or (whole z image (shared.calls ++ record { payload = payload; stored = 0 } ∷ [])) g 0
         ≡ get_or (whole z image shared.calls) g 0
     whole_left payload g h =
@@ -143,8 +143,8 @@ module _ (z : Zone) (image : List ℕ) (can : CanShare z image) where
     pub keeps_reserved : (payload : List ℕ) → open_count shared.calls ≢ 64
         → held shared.calls + length payload ≤ z.cap → Keeps z image (reserved z shared payload)
     keeps_reserved payload seat fits =
-        let w : Words = standing_words image in
-        let v : Words = standing_words shared.image in
+        let w : Words = standing_words z image in
+        let v : Words = standing_words z shared.image in
         let new : SharedCall = record { payload = payload; stored = 0 } in
         let calls : List SharedCall = shared.calls ++ new ∷ [] in
         let n : ℕ = length payload in
@@ -158,15 +158,15 @@ module _ (z : Zone) (image : List ℕ) (can : CanShare z image) where
         let fits_b : b < 2 ^ 32 = omega (arith, small_cap) in
         record {
           start = kept.start;
-          total = length-put shared.image 4 (to_le_bytes w32 a ++ to_le_bytes w32 b) ∙ kept.total;
-          signed = put_sig shared.image a b header fits_a fits_b ∙ kept.signed;
-          word_start = put_start shared.image a b header fits_a fits_b
+          total = length-put shared.image 4 (word_bytes z.byte_order a ++ word_bytes z.byte_order b) ∙ kept.total;
+          signed = put_sig z shared.image a b header fits_a fits_b ∙ kept.signed;
+          word_start = put_start z shared.image a b header fits_a fits_b
               ∙ ap (λ s. (s + n) % z.cap) kept.word_start
               ∙ mod-add-mod (w.start + length (all_bytes shared.calls)) z.cap n
               ∙ ap (λ k. k % z.cap)
               (let e : (w.start + length (all_bytes shared.calls)) + n ≡ w.start + length (all_bytes calls) =
               omega arith in e);
-          word_size = put_size shared.image a b header fits_a fits_b
+          word_size = put_size z shared.image a b header fits_a fits_b
               ∙ (let e : min z.cap (v.size + n) ≡ min z.cap (w.size + length (all_bytes calls)) =
               omega (arith, kept.word_size) in e);
           window = omega (arith, more_held shared.calls new);
@@ -174,7 +174,7 @@ module _ (z : Zone) (image : List ℕ) (can : CanShare z image) where
               omega (arith, more_count shared.calls new, kept.seats));
           bytes = λ g h k stored. elim (cases_lt g (w.size + length (all_bytes shared.calls))) [
             | inl l ↦
-                put_data shared.image a b header fits_a fits_b (round z image g)
+                put_data z shared.image a b header fits_a fits_b (round z image g)
                 ∙ kept.bytes g l (omega arith) (λ i j c e m o.
                 stored i j c (more_left shared.calls new c i e) m
                 (o ∙ ap (λ xs. w.size + (length xs + j))
@@ -197,13 +197,13 @@ module _ (z : Zone) (image : List ℕ) (can : CanShare z image) where
     pub keeps_stepped : (t : ℕ) (c : SharedCall) → slice_get shared.calls t ≡ Some c → is_open_call c ≡ true
         → Keeps z image (next_stored z shared t c)
     keeps_stepped t c e o =
-        let w : Words = standing_words image in
+        let w : Words = standing_words z image in
         let calls : List SharedCall = set shared.calls t (one_more c) in
         let p : ℕ = call_place z shared t c.stored in
         let b : ℕ = slice_index c.payload c.stored in
         let same : all_bytes calls ≡ all_bytes shared.calls = all_bytes-set shared.calls t c e in
-        let words : standing_words (put shared.image (12 + p) (b ∷ [])) ≡ standing_words shared.image =
-        byte_words shared.image p b in
+        let words : standing_words z (put shared.image (12 + p) (b ∷ [])) ≡ standing_words z shared.image =
+        byte_words z shared.image p b in
         let short : c.stored < length c.payload = ltb-true c.stored (length c.payload) o in
         let own : ℕ = w.size + (before shared.calls t + c.stored) in
         let at : p ≡ round z image own = call_round shared t c.stored kept.start in
@@ -293,5 +293,5 @@ module _ (z : Zone) (image : List ℕ) (can : CanShare z image) where
   keeps_after [] shared kept = kept
   keeps_after (o ∷ os) shared kept = keeps_after os (operated z shared o) (keeps_operated shared o kept)
 
-  pub keeps_run : (os : List SharedOperation) → Keeps z image (shared_after z (opened image) os)
-  keeps_run os = keeps_after os (opened image) keeps_opened
+  pub keeps_run : (os : List SharedOperation) → Keeps z image (shared_after z (opened z image) os)
+  keeps_run os = keeps_after os (opened z image) keeps_opened

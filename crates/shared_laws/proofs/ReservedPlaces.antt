@@ -3,7 +3,6 @@ use Rattle.std.proofs.Common.{◌≡◌, ℕ, ◌+◌, ◌%◌, ◌<◌, ◌≤�
 use Rattle.std.proofs.Common.{sym, ap, ◌∙◌, arith, inl, inr, take_all, w32, Option, Some, None}
 use Rattle.std.proofs.lemmas.Bool.{cases_eq, lt-ltb, ltb-true}
 use Rattle.std.specs.Prelude.{slice_get, slice_index}
-use Rattle.std.specs.Int.{to_le_bytes}
 use Rattle.zone_spec.specs.declared.Zone.{Zone}
 use Rattle.zone_spec.specs.Parts.{standing_words}
 use Rattle.ring_laws.proofs.Images.{put-above}
@@ -18,6 +17,7 @@ use Rattle.shared_laws.proofs.Counts.{open_call-some}
 use Rattle.shared_laws.proofs.PlainZones.{byte_elsewhere}
 use Rattle.shared_laws.proofs.FullListPlaces.{Keeps, keeps_operated}
 use Rattle.shared_laws.proofs.LogLaw.{apart_calls}
+use Rattle.zone_spec.specs.WordBytes.{word_bytes}
 
 -- the place of byte j of the payload that was then reserved
 abbrev pub next_place : Zone → SharedZone → ℕ → ℕ
@@ -35,8 +35,8 @@ pub record StillStands (z : Zone) (was : SharedZone) (payload : List ℕ) (share
 reserved-data : (z : Zone) (shared : SharedZone) (payload : List ℕ) (p : ℕ)
     → get_or (reserved z shared payload).image (12 + p) 0 ≡ get_or shared.image (12 + p) 0
 reserved-data z shared payload p = put-above shared.image 4 (12 + p)
-    (to_le_bytes w32 (((standing_words shared.image).start + length payload) % z.cap)
-    ++ to_le_bytes w32 (min z.cap ((standing_words shared.image).size + length payload))) (omega arith)
+    (word_bytes z.byte_order (((standing_words z shared.image).start + length payload) % z.cap)
+    ++ word_bytes z.byte_order (min z.cap ((standing_words z shared.image).size + length payload))) (omega arith)
 
 module _ (z : Zone) (image : List ℕ) (can : CanShare z image) (was : SharedZone) (payload : List ℕ) where
   pub place_then : (shared : SharedZone) (j : ℕ) → StillStands z was payload shared

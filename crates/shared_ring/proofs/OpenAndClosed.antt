@@ -111,7 +111,7 @@ module _ (zones : List Zone) (mem : ℕ) (image : List ℕ) (lies : IsLayout zon
     slice_get_within zones place z there,
   )
 
-  pub opened_stands : StandsFor z image (opened (zone_bytes z image)) just_opened
+  pub opened_stands : StandsFor z image (opened z (zone_bytes z image)) just_opened
   unfolding open_calls_from
   opened_stands =
       let n : z.at - 0 ≡ z.at = omega arith in
@@ -137,8 +137,8 @@ module _ (zones : List Zone) (mem : ℕ) (image : List ℕ) (lies : IsLayout zon
         sized = ap length own_span ∙ w;
         short = can.valid.at_most;
         room = omega (arith, can.valid.cap);
-        start = subst (λ xs. (standing_words xs).start < z.cap) (sym own_span) can.is_open.0;
-        size = subst (λ xs. (standing_words xs).size ≤ z.cap) (sym own_span) can.ring.1;
+        start = subst (λ xs. (standing_words z xs).start < z.cap) (sym own_span) can.is_open.0;
+        size = subst (λ xs. (standing_words z xs).size ≤ z.cap) (sym own_span) can.ring.1;
         few = omega arith;
         seats = record { each = λ i s f. cc };
       }

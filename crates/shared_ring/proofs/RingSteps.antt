@@ -6,7 +6,6 @@ use Rattle.std.proofs.lemmas.Bool.{cases_order, lt-ltb, ltb-true}
 use Rattle.std.proofs.lemmas.List.{map-append, take-map, drop-map}
 use Rattle.std.proofs.lemmas.Option.{slice_get_within}
 use Rattle.std.specs.Prelude.{slice_get, slice_index, flat_map, position, is_some}
-use Rattle.std.specs.Int.{to_le_bytes}
 use Rattle.zone_spec.specs.declared.Zone.{Zone}
 use Rattle.zone_spec.specs.Parts.{standing_words}
 use Rattle.zone_spec.specs.Stores.{Store, put}
@@ -32,6 +31,7 @@ use Rattle.shared_ring.proofs.Tickets.{AreRising, after_own}
 use Rattle.prz_region.proofs.Cuts.{spans-length}
 use Rattle.shared_ring.proofs.Regions.{before_stored, after_stored, one_stored}
 use Rattle.shared_ring.proofs.RingView.{shown_at, rising, seat_place, no_call, the_seat}
+use Rattle.zone_spec.specs.WordBytes.{word_bytes}
 
 -- ---- a reservation
 
@@ -44,24 +44,26 @@ stays_open calls new c t e =
 
 pub reserved_stands : (z : Zone) (image : List ℕ) (os : List SharedOperation) (can : CanShare z image)
     (whole : List ℕ) (v : SharedSeen) (payload : List ℕ)
-    → StandsFor z whole (shared_after z (opened image) os) v → 0 < length payload
-    → StandsFor z whole (reserved z (shared_after z (opened image) os) payload) (seated v payload)
+    → StandsFor z whole (shared_after z (opened z image) os) v → 0 < length payload
+    → StandsFor z whole (reserved z (shared_after z (opened z image) os) payload) (seated v payload)
 reserved_stands z image os can whole v payload s some =
-    let shared : SharedZone = shared_after z (opened image) os in
+    let shared : SharedZone = shared_after z (opened z image) os in
     let new : SharedCall = record { payload = payload; stored = 0 } in
-    let n : Store = words_store (((words_seen v).start + length payload) % v.zone.cap)
+    let n : Store = words_store v.zone.byte_order (((words_seen v).start + length payload) % v.zone.cap)
     (min v.zone.cap ((words_seen v).size + length payload)) in
-    let start : (words_seen v).start ≡ (standing_words shared.image).start =
-    ap (λ (bytes : List ℕ). (standing_words bytes).start) s.bytes in
+    let start : (words_seen v).start ≡ (standing_words z shared.image).start =
+    ap (λ (y : Zone). (standing_words y (bytes_of v)).start) s.zone
+    ∙ ap (λ (bytes : List ℕ). (standing_words z bytes).start) s.bytes in
     record {
       zone = s.zone;
       there = omega (arith, s.there, spans-length v.region v.place (n ∷ []));
       bytes = one_stored v.region v.place n s.there
-          ∙ ap (λ (y : Zone). put (bytes_of v) 4 (to_le_bytes w32 (((words_seen v).start + length payload) % y.cap)
-          ++ to_le_bytes w32 (min y.cap ((words_seen v).size + length payload)))) s.zone
+          ∙ ap (λ (y : Zone). put (bytes_of v) 4
+          (word_bytes y.byte_order (((standing_words y (bytes_of v)).start + length payload) % y.cap)
+          ++ word_bytes y.byte_order (min y.cap ((standing_words y (bytes_of v)).size + length payload)))) s.zone
           ∙ ap (λ (bytes : List ℕ). put bytes 4
-          (to_le_bytes w32 (((standing_words bytes).start + length payload) % z.cap)
-          ++ to_le_bytes w32 (min z.cap ((standing_words bytes).size + length payload)))) s.bytes;
+          (word_bytes z.byte_order (((standing_words z bytes).start + length payload) % z.cap)
+          ++ word_bytes z.byte_order (min z.cap ((standing_words z bytes).size + length payload)))) s.bytes;
       before = before_stored v.region v.place (n ∷ []) ∙ s.before;
       after = after_stored v.region v.place (n ∷ []) ∙ s.after;
       reserved = omega (arith, s.reserved, length-append shared.calls (new ∷ []));
@@ -177,7 +179,7 @@ stepped_stands z whole shared v i x s e =
 -- ---- histories
 
 next_zone : (h : History) (o : SharedOperation) → shared_zone (and_then h o) ≡ operated h.zone (shared_zone h) o
-next_zone h o = one_more_operation h.zone (opened (zone_bytes h.zone h.image)) h.operations o
+next_zone h o = one_more_operation h.zone (opened h.zone (zone_bytes h.zone h.image)) h.operations o
 
 left_as : (h : History) (o : SharedOperation) (v : SharedSeen) (shared : SharedZone)
     → CanShare h.zone (zone_bytes h.zone h.image) → operated h.zone (shared_zone h) o ≡ shared

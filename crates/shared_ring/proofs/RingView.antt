@@ -24,7 +24,7 @@ use Rattle.shared_laws.proofs.OpenCalls.{open_calls_are_shown}
 use Rattle.shared_laws.proofs.Laws.{held_by_places_law}
 use Rattle.shared_ring.specs.declared.seats.Seat.{Seat}
 use Rattle.shared_ring.specs.Seats.{is_of, call_of, shown_seat, way_round, held_since}
-use Rattle.shared_ring.specs.Seen.{SharedSeen, words_seen, StandsFor}
+use Rattle.shared_ring.specs.Seen.{SharedSeen, bytes_of, words_seen, StandsFor}
 use Rattle.shared_ring.proofs.Tickets.{AreRising, are_rising}
 
 -- ---- finding a ticket
@@ -164,7 +164,7 @@ module _ (z : Zone) (image : List ℕ) (shared : SharedZone) (v : SharedSeen) (s
 
 module _ (z : Zone) (image : List ℕ) (os : List SharedOperation) (can : CanShare z image) where
   abbrev shared : SharedZone
-  shared = shared_after z (opened image) os
+  shared = shared_after z (opened z image) os
 
   module _ (whole : List ℕ) (v : SharedSeen) (s : StandsFor z whole shared v) where
     -- the way from the first seat's place to start is what is held
@@ -179,11 +179,11 @@ module _ (z : Zone) (image : List ℕ) (os : List SharedOperation) (can : CanSha
         by (x ∷ xs) e =
             let g : slice_get v.seats 0 ≡ Some x = ap (λ (ys : List Seat). slice_get ys 0) e in
             let law : held shared.calls ≡ way_round z.cap (call_place z shared x.ticket 0)
-            (standing_words shared.image).start =
+            (standing_words z shared.image).start =
             held_by_places_law z image os can x.ticket (call_of x) (first_is_oldest z whole shared v s x g) in
-            ap (λ (y : Zone). way_round y.cap x.place (words_seen v).start) s.zone
-            ∙ ap (λ (bytes : List ℕ). way_round z.cap x.place (standing_words bytes).start) s.bytes
-            ∙ ap (λ p. way_round z.cap p (standing_words shared.image).start)
+            ap (λ (y : Zone). way_round y.cap x.place (standing_words y (bytes_of v)).start) s.zone
+            ∙ ap (λ (bytes : List ℕ). way_round z.cap x.place (standing_words z bytes).start) s.bytes
+            ∙ ap (λ p. way_round z.cap p (standing_words z shared.image).start)
             (sym (seat_place z whole shared v s 0 x g))
             ∙ sym law
 

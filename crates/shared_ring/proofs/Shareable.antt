@@ -18,7 +18,7 @@ use Rattle.shared_ring.specs.Seats.{IsOpenRing}
 use Rattle.shared_ring.proofs.OpenAndClosed.{zone_there}
 
 pub shares : (z : Zone) (image : List ℕ) (w : Words) → IsValidZone z → z.at + z.size ≤ length image
-    → w ≡ standing_words (zone_bytes z image) → z.parity ≡ 0 → w.sig ≡ z.sig → IsOpenRing w z.cap
+    → w ≡ standing_words z (zone_bytes z image) → z.parity ≡ 0 → w.sig ≡ z.sig → IsOpenRing w z.cap
     → CanShare z (zone_bytes z image)
 shares z image w valid within e plain signed ring = record {
   valid = valid;
@@ -33,7 +33,7 @@ shares z image w valid within e plain signed ring = record {
   is_open = (subst (λ (x : Words). IsOpenRing x z.cap) e ring).is_open;
 }
 
-pub open_ring : (z : Zone) (bytes : List ℕ) (w : Words) → w ≡ standing_words bytes → CanShare z bytes
+pub open_ring : (z : Zone) (bytes : List ℕ) (w : Words) → w ≡ standing_words z bytes → CanShare z bytes
     → IsOpenRing w z.cap
 open_ring z bytes w e can = subst (λ (x : Words). IsOpenRing x z.cap) (sym e)
     (record { ring = can.ring; is_open = can.is_open })

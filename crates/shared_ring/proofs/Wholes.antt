@@ -4,7 +4,6 @@ use Rattle.std.proofs.Common.{length, take, drop, set, sym, ap, ◌∙◌, subst
 use Rattle.std.proofs.Common.{mod-lt}
 use Rattle.std.proofs.lemmas.List.{length-take, length-drop}
 use Rattle.std.specs.Prelude.{slice_get, slice_index}
-use Rattle.std.specs.Int.{to_le_bytes}
 use Rattle.zone_spec.specs.declared.Words.{Words}
 use Rattle.zone_spec.specs.Parts.{standing_words}
 use Rattle.zone_spec.specs.Stores.{Store, put}
@@ -17,13 +16,14 @@ use Rattle.shared_ring.specs.Seen.{SharedSeen, bytes_of, words_seen, IsWhole, se
 use Rattle.prz_region.proofs.Cuts.{spans-length}
 use Rattle.shared_ring.proofs.Regions.{one_stored}
 use Rattle.shared_ring.proofs.SeatLists.{are_stepped, are_more}
+use Rattle.zone_spec.specs.WordBytes.{word_bytes}
 
 pub seated_whole : (v : SharedSeen) (payload : List ℕ) → IsWhole v → length v.seats < 64 → 0 < length payload
     → length payload ≤ v.zone.cap → IsWhole (seated v payload)
 seated_whole v payload w seat some room =
     let start : ℕ = ((words_seen v).start + length payload) % v.zone.cap in
     let size : ℕ = min v.zone.cap ((words_seen v).size + length payload) in
-    let s : Store = words_store start size in
+    let s : Store = words_store v.zone.byte_order start size in
     let n : List ℕ = put (bytes_of v) s.place s.bytes in
     let below : start < v.zone.cap = mod-lt _ (omega (arith, w.start)) in
     let at : span (stored v.region v.place (s ∷ [])) v.place ≡ n = one_stored v.region v.place s w.there in
@@ -33,15 +33,15 @@ seated_whole v payload w seat some room =
     record {
       there = omega (arith, w.there, spans-length v.region v.place (s ∷ []));
       sized = ap length at
-          ∙ length-put (bytes_of v) 4 (to_le_bytes w32 start ++ to_le_bytes w32 size) ∙ w.sized;
+          ∙ length-put (bytes_of v) 4 (word_bytes v.zone.byte_order start ++ word_bytes v.zone.byte_order size) ∙ w.sized;
       short = w.short;
       room = w.room;
       start = subst (λ k. k < v.zone.cap)
-          (sym (ap (λ xs. (standing_words xs).start) at
-          ∙ put_start (bytes_of v) start size wide (omega arith) (omega arith))) below;
+          (sym (ap (λ xs. (standing_words v.zone xs).start) at
+          ∙ put_start v.zone (bytes_of v) start size wide (omega arith) (omega arith))) below;
       size = subst (λ k. k ≤ v.zone.cap)
-          (sym (ap (λ xs. (standing_words xs).size) at
-          ∙ put_size (bytes_of v) start size wide (omega arith) (omega arith))) (omega arith);
+          (sym (ap (λ xs. (standing_words v.zone xs).size) at
+          ∙ put_size v.zone (bytes_of v) start size wide (omega arith) (omega arith))) (omega arith);
       few = omega (arith, seat, length-append v.seats (new ∷ []));
       seats = are_more v.zone.cap v.seats new w.seats (record { place = w.start; stored = some; long = room });
     }
@@ -63,8 +63,8 @@ stepped_whole v i s w e =
     let byte : Store = byte_store p (slice_index s.payload s.stored) in
     let n : List ℕ = put (bytes_of v) byte.place byte.bytes in
     let at : span (stored v.region v.place (byte ∷ [])) v.place ≡ n = one_stored v.region v.place byte w.there in
-    let same : standing_words (span (stored v.region v.place (byte ∷ [])) v.place) ≡ words_seen v =
-    ap standing_words at ∙ byte_words (bytes_of v) p (slice_index s.payload s.stored) in
+    let same : standing_words v.zone (span (stored v.region v.place (byte ∷ [])) v.place) ≡ words_seen v =
+    ap (standing_words v.zone) at ∙ byte_words v.zone (bytes_of v) p (slice_index s.payload s.stored) in
     record {
       there = omega (arith, w.there, spans-length v.region v.place (byte ∷ []));
       sized = ap length at ∙ length-put (bytes_of v) (12 + p) (slice_index s.payload s.stored ∷ []) ∙ w.sized;

@@ -2,10 +2,10 @@
 use Rattle.std.specs.Prelude.{◌≡◌, ℕ, ◌+◌, ◌%◌, ◌^◌, ◌<◌, ◌≤◌, min, List, [], ◌∷◌, ◌++◌, length, map, take, drop}
 use Rattle.std.specs.Prelude.{slice_get, slice_index, Option, Some, None, Result, Ok, Err}
 use Rattle.std.specs.List.{concat}
-use Rattle.std.specs.Int.{to_le_bytes}
 use Rattle.std.proofs.Common.{w32}
 use Rattle.zone_spec.specs.declared.Zone.{Zone}
 use Rattle.zone_spec.specs.declared.Words.{Words}
+use Rattle.zone_spec.specs.declared.params.ByteOrder.{ByteOrder}
 use Rattle.zone_spec.specs.Parts.{standing_words}
 use Rattle.zone_spec.specs.Stores.{Store}
 use Rattle.machine_spec.specs.Zones.{zone_bytes}
@@ -18,6 +18,7 @@ use Rattle.shared_spec.specs.Machine.{SharedZone, CanShare, open_calls}
 use Rattle.shared_spec.specs.Histories.{History, shared_zone}
 use Rattle.shared_ring.specs.declared.seats.Seat.{Seat}
 use Rattle.shared_ring.specs.Seats.{call_of, shown_seat, AreSeats, seats_stepped}
+use Rattle.zone_spec.specs.WordBytes.{word_bytes}
 
 -- the spans of the image's zones with the stores made into them, the shared zone and its place among them, how many
 -- calls were reserved, and the seats of the open ones
@@ -34,7 +35,7 @@ bytes_of v = span v.region v.place
 
 -- and its words
 abbrev pub words_seen : SharedSeen → Words
-words_seen v = standing_words (bytes_of v)
+words_seen v = standing_words v.zone (bytes_of v)
 
 -- the zone has its bytes, its words are a ring with start below cap, and at most 64 seats are taken
 pub record IsWhole (v : SharedSeen) : Type 0 where
@@ -69,8 +70,8 @@ abbrev pub stores : SharedSeen → ℕ
 stores v = length v.region.made
 
 -- one store of both words, start and size
-abbrev pub words_store : ℕ → ℕ → Store
-words_store start size = record { place = 4; bytes = to_le_bytes w32 start ++ to_le_bytes w32 size }
+abbrev pub words_store : ByteOrder → ℕ → ℕ → Store
+words_store order start size = record { place = 4; bytes = word_bytes order start ++ word_bytes order size }
 
 -- one store of a data byte
 abbrev pub byte_store : ℕ → ℕ → Store
@@ -79,7 +80,7 @@ byte_store place b = record { place = 12 + place; bytes = b ∷ [] }
 -- after a reservation, which is one store
 abbrev pub seated : SharedSeen → List ℕ → SharedSeen
 seated v payload = record {
-  region = stored v.region v.place (words_store (((words_seen v).start + length payload) % v.zone.cap)
+  region = stored v.region v.place (words_store v.zone.byte_order (((words_seen v).start + length payload) % v.zone.cap)
       (min v.zone.cap ((words_seen v).size + length payload)) ∷ []);
   place = v.place;
   zone = v.zone;

@@ -1,7 +1,5 @@
 // Whether a zone can be opened.
 ghost use Rattle.std.specs.Prelude.{◌≡◌, ◌+◌, ◌≤◌, ◌↔◌, length, IsTrue};
-ghost use Rattle.std.specs.Int.{from_le_bytes};
-ghost use Rattle.std.proofs.Common.{w32};
 ghost use Rattle.zone_spec.specs.Zones.{IsValidZone};
 ghost use Rattle.zone_spec.specs.Parts.{standing_words};
 ghost use Rattle.machine_spec.specs.Zones.{zone_bytes};
@@ -14,22 +12,16 @@ use outside::Bytes;
 use ramoops_layout::types::Layout;
 use zone_spec::{Words, Zone, ZoneName};
 
-fn word(four: &[u8]) -> u32
-    requires { length four.now ≡ 4 }
-    ensures { result ≡ from_le_bytes w32 four.now }
-{
-    u32::from_le_bytes([four[0], four[1], four[2], four[3]])
-}
-
 // The words of a zone's bytes.
-fn words_of(bytes: &[u8]) -> Words
+fn words_of(zone: &Zone, bytes: &[u8]) -> Words
     requires { 12 ≤ length bytes.now }
-    ensures { result ≡ standing_words bytes.now }
+    ensures { result ≡ standing_words zone.now bytes.now }
 {
+    let order = zone.byte_order;
     Words {
-        sig: word(&bytes[0..4]),
-        start: word(&bytes[4..8]),
-        size: word(&bytes[8..12]),
+        sig: order.word(&bytes[0..4]),
+        start: order.word(&bytes[4..8]),
+        size: order.word(&bytes[8..12]),
     }
 }
 
@@ -50,7 +42,7 @@ fn can_share(image: &[u8], zone: &Zone) -> bool
     ensures { IsTrue result ↔ CanShare zone.now (zone_bytes zone.now image.now) }
 {
     let at = zone.at as usize;
-    let words = words_of(&image[at..at + zone.size as usize]);
+    let words = words_of(zone, &image[at..at + zone.size as usize]);
     if zone.parity != 0 || words.sig != zone.sig {
         return false;
     }

@@ -98,9 +98,9 @@ impl Shared {
     /// The words as they stand.
     pub fn words(&self) -> Words
         ensures value { result ≡ words_seen self.now }
-        ensures left { (h : History) → IsLeftBy h self.now → result ≡ standing_words (shared_zone h).image }
+        ensures left { (h : History) → IsLeftBy h self.now → result ≡ standing_words h.zone (shared_zone h).image }
     {
-        Words::read(&self.spans.all()[self.place as usize])
+        Words::read(self.zone.byte_order, &self.spans.all()[self.place as usize])
     }
 
     /// How many calls were reserved, open ones and finished ones.
@@ -157,8 +157,9 @@ impl Shared {
         let len = payload.len() as u32;
         let cap = self.zone.cap;
         let start = (words.start + len) % cap;
+        let order = self.zone.byte_order;
         self.spans
-            .store_pair(self.place, 4, start, cap.min(words.size + len));
+            .store_pair(self.place, 4, order, start, cap.min(words.size + len));
         let ticket = self.reserved;
         self.reserved += 1;
         self.seats.push_reserved(Seat {

@@ -16,7 +16,7 @@ use Rattle.script_spec.specs.declared.Cause.TheVariants.{Idle}
 use Rattle.shared_session.specs.Left.{IsLeft}
 
 pub next_zone : (h : History) (o : SharedOperation) → shared_zone (and_then h o) ≡ operated h.zone (shared_zone h) o
-next_zone h o = one_more_operation h.zone (opened (zone_bytes h.zone h.image)) h.operations o
+next_zone h o = one_more_operation h.zone (opened h.zone (zone_bytes h.zone h.image)) h.operations o
 
 -- a call that is not open, in a zone that is left so
 record IsIdle (h : History) (t : ℕ) (v : SharedSeen) : Type 0 where

@@ -15,7 +15,7 @@ pub record History : Type 0 where
 
 -- what it leaves of the zone
 abbrev pub shared_zone : History → SharedZone
-shared_zone h = shared_after h.zone (opened (zone_bytes h.zone h.image)) h.operations
+shared_zone h = shared_after h.zone (opened h.zone (zone_bytes h.zone h.image)) h.operations
 
 -- with one operation more
 abbrev pub and_then : History → SharedOperation → History

@@ -23,6 +23,7 @@ use Rattle.zone_spec.specs.declared.State.TheVariants.{Unsigned, Empty, Invalid,
 use Rattle.zone_spec.specs.declared.PartState.TheVariants.{Read}
 use Rattle.zone_spec.specs.PartStates.{PartStates}
 use Rattle.zone_spec.specs.Reading.{ZoneReading}
+use Rattle.zone_spec.specs.declared.params.ByteOrder.TheVariants.{Little}
 
 abbrev pub kind_of : StorageKind → Kind
 kind_of StoragePmsg = Pmsg
@@ -41,6 +42,7 @@ zone_of z = record {
   parity = 0;
   sig = sig_of z.kind;
   block = 0;
+  byte_order = Little;
 }
 
 -- an erased zone is empty; one whose words or header are wrong is invalid

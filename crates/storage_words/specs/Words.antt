@@ -18,8 +18,8 @@ keys = record {
   prefix = [];
   names = codes "pstore_blk.kmsg_size" ∷ codes "pstore_blk.pmsg_size" ∷ codes "pstore_blk.console_size"
       ∷ codes "pstore_blk.ftrace_size" ∷ codes "pstore_blk.cpus" ∷ [];
-  choice = [];
-  choices = [];
+  first = record { key = []; texts = [] };
+  second = record { key = []; texts = [] };
 }
 
 -- a size in bytes. No storage has room for one of 4 GiB, or of a page less

@@ -8,7 +8,12 @@ ghost use Rattle.storage_words.specs.Words.{is_of_storage as is_of, gives_size, 
 use crate::Storages;
 use psz_read::kib_size;
 use psz_spec::Sizes;
-use ramoops_layout::{Keys, ParamFault};
+use ramoops_layout::{Choice, Keys, ParamFault};
+
+const NONE: Choice = Choice {
+    key: "",
+    texts: &[],
+};
 
 const KEYS: Keys = Keys {
     prefix: "",
@@ -19,8 +24,8 @@ const KEYS: Keys = Keys {
         "pstore_blk.ftrace_size",
         "pstore_blk.cpus",
     ],
-    choice: "",
-    choices: &[],
+    first: NONE,
+    second: NONE,
 };
 
 /// The most whole pages below 4 GiB.

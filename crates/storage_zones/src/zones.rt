@@ -13,7 +13,7 @@ use prz_read::{Logs, Reading, ZoneParts};
 use psz_read::{read_at, state_of, words_of, zone_at, zone_bytes, zone_count};
 use psz_spec::{Machine, Sizes};
 use std::alloc::{AllocError, Global};
-use zone_spec::{Kind, PartState, State, Words, Zone, ZoneName};
+use zone_spec::{ByteOrder, Kind, PartState, State, Words, Zone, ZoneName};
 
 fn kind_of(kind: psz_spec::Kind) -> Kind
     ensures { result ≡ kind_by kind }
@@ -57,6 +57,7 @@ fn zone_of(zone: &psz_spec::Zone) -> Zone
         parity: 0,
         sig: sig_of(zone.kind),
         block: 0,
+        byte_order: ByteOrder::Little,
     }
 }
 

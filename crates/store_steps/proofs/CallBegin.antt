@@ -170,7 +170,7 @@ call_bytes (Append payload) h = h
 call_bytes Erase h = h
 call_bytes (Dump line body) h = h
 
-pub stands_starts : (f : Flying) (image : List ℕ) → Starts f → f.made ≡ 0 → f.words ≡ standing_words image
+pub stands_starts : (f : Flying) (image : List ℕ) → Starts f → f.made ≡ 0 → f.words ≡ standing_words f.zone image
     → AreBytes image → AreCallBytes f.call → StandsFor f image image
 unfolding call_stores
 stands_starts f image starts none words bytes appended = record {
@@ -181,6 +181,6 @@ stands_starts f image starts none words bytes appended = record {
       (starts.left image ∙ ap (λ w. stores_in_turn f.zone (call_stages f.zone w f.call) image) words));
   total =
       ap (λ w. sum_by (stage_count f.zone) (call_stages f.zone w f.call)) words
-      ∙ sym (length-stores f.zone starts.sound.valid (call_stages f.zone (standing_words image) f.call) image bytes
-      (call_stages-all f.zone starts.sound.valid (standing_words image) f.call (call_bytes f.call appended)));
+      ∙ sym (length-stores f.zone starts.sound.valid (call_stages f.zone (standing_words f.zone image) f.call) image bytes
+      (call_stages-all f.zone starts.sound.valid (standing_words f.zone image) f.call (call_bytes f.call appended)));
 }

@@ -12,7 +12,7 @@ use Rattle.ring_laws.proofs.Images.{after_stores-append}
 use Rattle.std.proofs.lemmas.List.{take-append-drop, drop-drop, length-take-le}
 use Rattle.store_steps.proofs.StoresLeft.{length-stores_of}
 use Rattle.store_steps.proofs.ParityBytes.{parity_stays}
-use Rattle.zone_spec.specs.Parts.{AreBytes, Header, Block}
+use Rattle.zone_spec.specs.Parts.{AreBytes, Header, Block, standing_words}
 use Rattle.store_steps.specs.declared.place.Phase.{Phase}
 use Rattle.store_steps.specs.declared.place.Phase.TheVariants.{ZeroStart, ZeroSize, Size, Start, First, FirstParity}
 use Rattle.store_steps.specs.declared.place.Phase.TheVariants.{Second, SecondParity, Header as HeaderPhase, Finished}
@@ -155,7 +155,7 @@ stands_later f h n old new before some count new_is bytes settled stands =
     let w : IsUnderway f.zone f.call before new (f.made + n) (stores_left h new) =
     subst (IsUnderway f.zone f.call before new (f.made + n)) (sym (settled.left new bytes)) c in
     record {
-      words = stands.words ∙ sym settled.same.words;
+      words = ap (λ (y : Zone). standing_words y before) settled.same.zone ∙ stands.words ∙ sym settled.same.words;
       underway =
           subst (λ m. IsUnderway h.zone h.call before new m (stores_left h new)) (sym settled.made)
           (subst (λ z. IsUnderway z h.call before new (f.made + n) (stores_left h new)) (sym settled.same.zone)

@@ -172,10 +172,10 @@ all-drop P (suc n) (x ∷ xs) h = all-drop P n xs h.1
 
 stores_of-all : (f : Flying) (image : List ℕ) (p : Phase) → IsValidZone f.zone → AreCallBytes f.call → AreBytes image
     → AllByRecursion IsStore (stores_of f image p)
-stores_of-all f image ZeroStart valid call h = (word-bytes 0, tt)
-stores_of-all f image ZeroSize valid call h = (word-bytes 0, tt)
-stores_of-all f image Size valid call h = (word-bytes _, tt)
-stores_of-all f image Start valid call h = (word-bytes _, tt)
+stores_of-all f image ZeroStart valid call h = (word-bytes f.zone.byte_order 0, tt)
+stores_of-all f image ZeroSize valid call h = (word-bytes f.zone.byte_order 0, tt)
+stores_of-all f image Size valid call h = (word-bytes f.zone.byte_order _, tt)
+stores_of-all f image Start valid call h = (word-bytes f.zone.byte_order _, tt)
 stores_of-all f image First valid call h =
     byte_stores-all (12 + f.place.start) (first_run f)
     (part-bytes (f.zone.cap - f.place.start) (payload f) (leg_are f.zone.cap f.call f.place.leg call)).0

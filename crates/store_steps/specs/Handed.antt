@@ -6,7 +6,7 @@ use Rattle.store_steps.specs.declared.store.Given.TheVariants.{Word, Line, Paylo
 use Rattle.store_steps.specs.declared.store.Store.{Store}
 
 abbrev pub handed_by : Given → Store → List ℕ → List ℕ → List DefinedStore
-handed_by Word s line payload = word_store s.place s.word
+handed_by Word s line payload = word_store s.byte_order s.place s.word
 handed_by Line s line payload = byte_stores s.place (take s.len (drop s.from line))
 handed_by Payload s line payload = byte_stores s.place (take s.len (drop s.from payload))
 handed_by Parity s line payload = byte_stores s.place (take s.len (drop s.from s.parity.items))

@@ -20,10 +20,10 @@ use Rattle.store_steps.specs.Phases.{IsPlaced}
 
 -- all stores of a phase, on an image in which none or some of them are made: parity is that of its part as it stands
 abbrev pub stores_of : Flying → List ℕ → Phase → List Store
-stores_of f image ZeroStart = word_store 4 0
-stores_of f image ZeroSize = word_store 8 0
-stores_of f image Size = word_store 8 (min f.zone.cap (f.place.size + length (payload f)))
-stores_of f image Start = word_store 4 ((f.place.start + length (payload f)) % f.zone.cap)
+stores_of f image ZeroStart = word_store f.zone.byte_order 4 0
+stores_of f image ZeroSize = word_store f.zone.byte_order 8 0
+stores_of f image Size = word_store f.zone.byte_order 8 (min f.zone.cap (f.place.size + length (payload f)))
+stores_of f image Start = word_store f.zone.byte_order 4 ((f.place.start + length (payload f)) % f.zone.cap)
 stores_of f image First = byte_stores (12 + f.place.start) (first_run f)
 stores_of f image FirstParity = stage_stores f.zone (ParityOf (Block f.place.block)) image
 stores_of f image Second = byte_stores 12 (second_run f)
@@ -86,7 +86,7 @@ pub record IsFresh (f : Flying) : Type 0 where
 -- made of the call, what the flight stores next is what the call stores next, and it counts as many stores as the
 -- call has
 pub record StandsFor (f : Flying) (now before : List ℕ) : Type 0 where
-  pub words : standing_words before ≡ f.words
+  pub words : standing_words f.zone before ≡ f.words
   pub underway : IsUnderway f.zone f.call before now f.made (stores_left f now)
   pub total : total_of f ≡ length (call_stores f.zone f.call before)
 

@@ -48,16 +48,16 @@ impl Steps {
         requires valid { IsValidZone zone }
         requires len { length image.now ≡ zone.size }
         requires line { length line.now ≤ 36 }
-        requires ring { IsRing (standing_words image.now) zone.cap }
-        requires is_open { IsOpenFor (call_of kind line.now payload.now) (standing_words image.now) zone.cap }
+        requires ring { IsRing (standing_words zone image.now) zone.cap }
+        requires is_open { IsOpenFor (call_of kind line.now payload.now) (standing_words zone image.now) zone.cap }
         ensures kept { IsKept (flying result line.now payload.now) }
         ensures zone { result.zone ≡ zone }
-        ensures words { result.words ≡ standing_words image.now }
+        ensures words { result.words ≡ standing_words zone image.now }
         ensures kind { result.kind ≡ kind }
         ensures made { result.made ≡ 0 }
         ensures stands { StandsFor (flying result line.now payload.now) image.now image.now }
     {
-        let words = words_of(&image[..12]);
+        let words = words_of(zone.byte_order, &image[..12]);
         let place = first_place(&zone, &words, kind, line, payload);
         Steps {
             zone,
@@ -79,13 +79,13 @@ impl Steps {
         requires valid { IsValidZone zone }
         requires len { length image.now ≡ zone.size }
         requires line { length line.now ≤ 36 }
-        ensures begins { IsRing (standing_words image.now) zone.cap
-            → IsOpenFor (call_of kind line.now payload.now) (standing_words image.now) zone.cap → IsSome result }
+        ensures begins { IsRing (standing_words zone image.now) zone.cap
+            → IsOpenFor (call_of kind line.now payload.now) (standing_words zone image.now) zone.cap → IsSome result }
         ensures begun { IfSome result (λ steps. (IsKept (flying steps line.now payload.now)) × (steps.zone ≡ zone)
             × (steps.kind ≡ kind) × (steps.made ≡ 0)
             × StandsFor (flying steps line.now payload.now) image.now image.now) }
     {
-        let words = words_of(&image[..12]);
+        let words = words_of(zone.byte_order, &image[..12]);
         if words.start > words.size || words.size > zone.cap {
             return None;
         }
@@ -368,18 +368,18 @@ impl Steps {
     {
         let number = self.place.number;
         match self.place.phase {
-            Phase::ZeroStart => out.set_word(4, 0),
-            Phase::ZeroSize => out.set_word(8, 0),
+            Phase::ZeroStart => out.set_word(self.zone.byte_order, 4, 0),
+            Phase::ZeroSize => out.set_word(self.zone.byte_order, 8, 0),
             Phase::Size => {
                 let size = self
                     .zone
                     .cap
                     .min(self.place.size + self.payload_len(line, payload));
-                out.set_word(8, size);
+                out.set_word(self.zone.byte_order, 8, size);
             }
             Phase::Start => {
                 let start = (self.place.start + self.payload_len(line, payload)) % self.zone.cap;
-                out.set_word(4, start);
+                out.set_word(self.zone.byte_order, 4, start);
             }
             Phase::First => {
                 let at = 12 + self.place.start + number;

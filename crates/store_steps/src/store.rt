@@ -5,11 +5,12 @@ ghost use Rattle.zone_spec.specs.Stores.{word_store, byte_stores};
 ghost use Rattle.std.specs.Prelude.{take, drop};
 
 use arrayvec::ArrayVec;
+use zone_spec::ByteOrder;
 
 /// Whose bytes are to be stored.
 #[derive(Clone, Copy, Debug, PartialEq, Eq)]
 pub enum Given {
-    /// The four bytes of `word`, the lowest first, at once.
+    /// The four bytes of `word` in `byte_order`, at once.
     Word,
     /// `len` bytes of the line, from `from` on.
     Line,
@@ -29,6 +30,7 @@ pub struct Store {
     pub place: u32,
     pub from: u64,
     pub len: u32,
+    pub byte_order: ByteOrder,
     pub word: u32,
     pub parity: ArrayVec<u8, 127>,
 }
@@ -43,13 +45,14 @@ impl Store {
             place: 0,
             from: 0,
             len: 0,
+            byte_order: ByteOrder::Little,
             word: 0,
             parity: ArrayVec::new(),
         }
     }
 
-    pub(crate) fn set_word(&mut self, place: u32, word: u32)
-        ensures stores { (line payload : List ℕ) → handed self.new line payload ≡ word_store place word }
+    pub(crate) fn set_word(&mut self, order: ByteOrder, place: u32, word: u32)
+        ensures stores { (line payload : List ℕ) → handed self.new line payload ≡ word_store order place word }
         ensures inside { (size : ℕ) → (line payload : List ℕ) → place + 4 ≤ size
             → IsInside size self.new line payload }
     {
@@ -57,6 +60,7 @@ impl Store {
         self.place = place;
         self.from = 0;
         self.len = 4;
+        self.byte_order = order;
         self.word = word;
     }
 

@@ -4,7 +4,7 @@ use outside::Bytes;
 use prz_read::{Logs, Reading, State, Words};
 use pstore_records::*;
 use ramoops_layout::types::Layout;
-use ramoops_layout::{Order, Params, layout};
+use ramoops_layout::{ByteOrder, Order, Params, layout};
 use std::alloc::{AllocError, Global};
 use std::process::Abort;
 use std::test::Fail;
@@ -25,6 +25,7 @@ fn params(dump: u64, console: u64, ftrace: u64, pmsg: u64, ecc: u64) -> Params {
         ecc_ftrace: ecc,
         ecc_pmsg: ecc,
         order: Order::FtracePmsg,
+        byte_order: ByteOrder::Little,
     }
 }
 

@@ -10,7 +10,7 @@ use ramoops_layout::layout;
 use std::alloc::{AllocError, Global};
 use std::process::Abort;
 use std::test::Fail;
-use zone_spec::{Kind, Order, Params, Time, ZoneName};
+use zone_spec::{ByteOrder, Kind, Order, Params, Time, ZoneName};
 
 const CONSOLE: ZoneName = ZoneName {
     kind: Kind::Console,
@@ -50,6 +50,7 @@ fn params(mem: u64, dump: u64, console: u64, pmsg: u64, ecc: u64) -> Params {
         ecc_ftrace: ecc,
         ecc_pmsg: ecc,
         order: Order::FtracePmsg,
+        byte_order: ByteOrder::Little,
     }
 }
 

@@ -4,7 +4,7 @@ use salvage::*;
 use std::alloc::{AllocError, Global};
 use std::process::Abort;
 use std::test::Fail;
-use zone_spec::{Kind, Order, Words, ZoneName};
+use zone_spec::{ByteOrder, Kind, Order, Words, ZoneName};
 
 // Parameters with these sizes of dump, console and pmsg zones and this parity.
 fn params(dump: u64, console: u64, pmsg: u64, ecc: u64) -> Params {
@@ -23,6 +23,7 @@ fn params(dump: u64, console: u64, pmsg: u64, ecc: u64) -> Params {
         ecc_ftrace: ecc,
         ecc_pmsg: ecc,
         order: Order::FtracePmsg,
+        byte_order: ByteOrder::Little,
     }
 }
 

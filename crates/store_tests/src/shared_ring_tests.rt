@@ -10,7 +10,7 @@ use shared_ring::{Next, OpenCall, Shared, SharedRefusal, can_open};
 use std::alloc::{AllocError, Global};
 use std::process::Abort;
 use std::test::Fail;
-use zone_spec::{Kind, Order, ZoneName};
+use zone_spec::{ByteOrder, Kind, Order, ZoneName};
 
 const FTRACE: ZoneName = ZoneName {
     kind: Kind::Ftrace,
@@ -34,6 +34,7 @@ fn params(size: u64) -> Params {
         ecc_ftrace: 0,
         ecc_pmsg: 0,
         order: Order::FtracePmsg,
+        byte_order: ByteOrder::Little,
     }
 }
 

@@ -1,18 +1,29 @@
 use ramoops_layout::*;
 use std::alloc::{AllocError, Global};
 
+const NONE: Choice = Choice {
+    key: "",
+    texts: &[],
+};
+
 const PREFIXED: Keys = Keys {
     prefix: "ramoops.",
-    names: &["mem_size", "ecc", "cpus", "side"],
-    choice: "side",
-    choices: &["left", "right"],
+    names: &["mem_size", "ecc", "cpus", "side", "end"],
+    first: Choice {
+        key: "side",
+        texts: &["left", "right"],
+    },
+    second: Choice {
+        key: "end",
+        texts: &["upper", "lower"],
+    },
 };
 
 const PLAIN: Keys = Keys {
     prefix: "",
     names: &["total_size", "kmsg_size", "pmsg_size"],
-    choice: "",
-    choices: &[],
+    first: NONE,
+    second: NONE,
 };
 
 fn split_words(alloc: Global, line: &str) -> Result<Vec<String>, AllocError> {
@@ -92,6 +103,9 @@ const PREFIXED_FAULTS: &[(&str, Option<ParamFault>)] = &[
     ("ecc=1 ramoops.side=right", None),
     ("ecc=1 side=1", Some(ParamFault::NotANumber(1))),
     ("side=lef", Some(ParamFault::NotANumber(0))),
+    ("end=lower side=left", None),
+    ("end=left", Some(ParamFault::NotANumber(0))),
+    ("end=1", Some(ParamFault::NotANumber(0))),
     ("side=", Some(ParamFault::NotANumber(0))),
     ("side=left side=right", Some(ParamFault::Twice(1))),
     ("ecc=left", Some(ParamFault::NotANumber(0))),
@@ -138,8 +152,12 @@ fn words_give_numbers(rt: HostRuntime) {
         assert!(rt; PREFIXED.given(&words, key) == number, "of {key}");
     }
     assert!(rt; PLAIN.given(&words, "ecc") == None);
-    let words = split_words(rt.alloc(), "ecc=2 side=right").expect(&rt, "there is memory");
+    let words = split_words(rt.alloc(), "ecc=2 side=right end=lower").expect(
+        &rt,
+        "there is memory",
+    );
     assert!(rt; PREFIXED.given(&words, "side") == Some(1));
+    assert!(rt; PREFIXED.given(&words, "end") == Some(1));
 }
 
 const SHOWN: &[(ParamFault, u32, &str)] = &[

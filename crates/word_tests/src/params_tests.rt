@@ -119,6 +119,31 @@ fn ftrace_and_pmsg_lie_in_the_order_given(rt: HostRuntime) {
 }
 
 #[test]
+fn words_are_of_the_byte_order_given(rt: HostRuntime) {
+    for (order, wanted) in [
+        ("byte_order=big", ByteOrder::Big),
+        ("ramoops.byte_order=little", ByteOrder::Little),
+        ("ecc=2", ByteOrder::Little),
+    ] {
+        let line = format!(in rt.alloc(); "mem_size=16384 {order}").expect(&rt, "there is memory");
+        let l = laid(rt.alloc(), line.as_str())
+            .expect(&rt, "there is memory")
+            .expect(&rt, "there is a layout");
+        assert!(rt;
+            l.zones().iter().all(|z| z.byte_order == wanted),
+            "by {order}"
+        );
+    }
+    for order in ["byte_order=BIG", "byte_order=1", "byte_order="] {
+        let line = format!(in rt.alloc(); "mem_size=16384 {order}").expect(&rt, "there is memory");
+        assert!(rt;
+            layout_fault_of(rt.alloc(), line.as_str()) == Ok(98),
+            "by {order}"
+        );
+    }
+}
+
+#[test]
 fn odd_sizes_are_laid_out(rt: HostRuntime) {
     let l = laid(
         rt.alloc(),

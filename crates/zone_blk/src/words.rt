@@ -5,13 +5,18 @@ ghost use Rattle.grammar_spec.specs.BlkWords.{given, params_of, read_of};
 
 use blk_spec::BlkParams;
 use grammar_spec::ParamFault;
-use ramoops_layout::Keys;
+use ramoops_layout::{Choice, Keys};
+
+const NONE: Choice = Choice {
+    key: "",
+    texts: &[],
+};
 
 const KEYS: Keys = Keys {
     prefix: "",
     names: &["total_size", "kmsg_size", "console_size", "pmsg_size"],
-    choice: "",
-    choices: &[],
+    first: NONE,
+    second: NONE,
 };
 
 const ZONE: u32 = 65536;

@@ -40,17 +40,17 @@ no-front ss ts h = no-length ss (omega (arith, ap length h, length-append ss ts)
 -- ---- in each phase of an erasure
 module _ (z : Zone) (x : List ℕ) (b w n : ℕ) (e : Erasure) where
   pub left-signature : left_at z x b w n e Signature
-      ≡ word_store 0 z.sig ++ left_at z (after_stores x (word_store 0 z.sig)) b w n e Start
+      ≡ word_store z.byte_order 0 z.sig ++ left_at z (after_stores x (word_store z.byte_order 0 z.sig)) b w n e Start
   unfolding then_stages stores_in_turn stage_stores after_stores
   left-signature = refl
 
   pub left-start : left_at z x b w n e Start
-      ≡ word_store 4 0 ++ left_at z (after_stores x (word_store 4 0)) b w n e Size
+      ≡ word_store z.byte_order 4 0 ++ left_at z (after_stores x (word_store z.byte_order 4 0)) b w n e Size
   unfolding then_stages stores_in_turn stage_stores after_stores
   left-start = refl
 
   pub left-size : left_at z x b w n e Size
-      ≡ word_store 8 0 ++ left_at z (after_stores x (word_store 8 0)) b w n e Parity
+      ≡ word_store z.byte_order 8 0 ++ left_at z (after_stores x (word_store z.byte_order 8 0)) b w n e Parity
   unfolding then_stages stores_in_turn stage_stores after_stores
   left-size = refl
 
@@ -93,16 +93,16 @@ module _ (z : Zone) (valid : IsValidZone z) (x : List ℕ) (h : AreBytes x) (b w
   next-counts p q given = (m : ℕ) → length (left_at z x b w n e p)
       ≡ length given + length (left_at z (after_stores x (take m given)) b w n e q)
 
-  pub counts-signature : next-counts Signature Start (word_store 0 z.sig)
-  counts-signature = erasure-count z valid x b w n e Signature Start h (word_store 0 z.sig) (word-bytes z.sig, tt) refl
+  pub counts-signature : next-counts Signature Start (word_store z.byte_order 0 z.sig)
+  counts-signature = erasure-count z valid x b w n e Signature Start h (word_store z.byte_order 0 z.sig) (word-bytes z.byte_order z.sig, tt) refl
       (λ y. refl) (sum_by-cons (stage_count z) (SigWord z.sig) erase_stages)
 
-  pub counts-start : next-counts Start Size (word_store 4 0)
-  counts-start = erasure-count z valid x b w n e Start Size h (word_store 4 0) (word-bytes 0, tt) refl (λ y. refl)
+  pub counts-start : next-counts Start Size (word_store z.byte_order 4 0)
+  counts-start = erasure-count z valid x b w n e Start Size h (word_store z.byte_order 4 0) (word-bytes z.byte_order 0, tt) refl (λ y. refl)
       (sum_by-cons (stage_count z) (StartWord 0) (SizeWord 0 ∷ ParityOf Header ∷ []))
 
-  pub counts-size : next-counts Size Parity (word_store 8 0)
-  counts-size = erasure-count z valid x b w n e Size Parity h (word_store 8 0) (word-bytes 0, tt) refl (λ y. refl)
+  pub counts-size : next-counts Size Parity (word_store z.byte_order 8 0)
+  counts-size = erasure-count z valid x b w n e Size Parity h (word_store z.byte_order 8 0) (word-bytes z.byte_order 0, tt) refl (λ y. refl)
       (sum_by-cons (stage_count z) (SizeWord 0) (ParityOf Header ∷ []))
 
   pub counts-parity : (given : List Store)

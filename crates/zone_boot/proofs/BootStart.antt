@@ -1,7 +1,6 @@
 -- Where a boot begins
 use Rattle.std.proofs.Common.{◌≡◌, ℕ, ◌+◌, ◌-◌, ◌/◌, ◌≤◌, Bool, if◌then◌else◌, List, [], ◌++◌, length, drop, flat_map}
 use Rattle.std.proofs.Common.{slice_range, refl, sym, ap, ap₂, ◌∙◌, arith, w32, length-take, length-drop}
-use Rattle.std.specs.Int.{to_le_bytes}
 use Rattle.std.specs.List.{range_with_len}
 use Rattle.std.proofs.lemmas.Nat.{le_bytes_4}
 use Rattle.list_laws.proofs.Slices.{append-slice_range_thirds}
@@ -26,6 +25,9 @@ use Rattle.zone_boot.specs.declared.boots.Phase.TheVariants.{Header as HeaderPha
 use Rattle.zone_boot.specs.Left.{part_left, blocks_left, then_stages, stages_of, left_at}
 use Rattle.zone_boot.proofs.Blocks.{header-length}
 use Rattle.zone_boot.proofs.LaterStores.{left-whole, blocks-whole, blocks-none}
+use Rattle.zone_spec.specs.WordBytes.{word_bytes}
+use Rattle.zone_spec.specs.declared.params.ByteOrder.{ByteOrder}
+use Rattle.word_laws.proofs.WordBytes.{word_bytes-word_of}
 
 -- ---- the erasure, by the state
 module _ (z : Zone) (x : List ℕ) where
@@ -89,28 +91,28 @@ erased-other z Found h = refl
 
 -- ---- the header's bytes
 
-header-bytes : (bs : List ℕ) → length bs ≡ 12 → AreBytes bs
-    → to_le_bytes w32 (words_in bs).sig ++ to_le_bytes w32 (words_in bs).start ++ to_le_bytes w32 (words_in bs).size
+header-bytes : (order : ByteOrder) (bs : List ℕ) → length bs ≡ 12 → AreBytes bs
+    → word_bytes order (words_in order bs).sig ++ word_bytes order (words_in order bs).start ++ word_bytes order (words_in order bs).size
     ≡ bs
-header-bytes bs h k =
+header-bytes order bs h k =
     let long : (a : ℕ) → a + 4 ≤ 12 → length (slice_range bs a (a + 4)) ≡ 4 =
     λ a l. omega (arith, length-take ((a + 4) - a) (drop a bs), length-drop a bs) in
-    let e0 : to_le_bytes w32 (words_in bs).sig ≡ slice_range bs 0 4 =
-    le_bytes_4 (slice_range bs 0 4) _ (long 0 (omega arith)) (slice_range-bytes bs 0 4 k) refl in
-    let e1 : to_le_bytes w32 (words_in bs).start ≡ slice_range bs 4 8 =
-    le_bytes_4 (slice_range bs 4 8) _ (long 4 (omega arith)) (slice_range-bytes bs 4 8 k) refl in
-    let e2 : to_le_bytes w32 (words_in bs).size ≡ slice_range bs 8 12 =
-    le_bytes_4 (slice_range bs 8 12) _ (long 8 (omega arith)) (slice_range-bytes bs 8 12 k) refl in
+    let e0 : word_bytes order (words_in order bs).sig ≡ slice_range bs 0 4 =
+    word_bytes-word_of order (slice_range bs 0 4) (long 0 (omega arith)) (slice_range-bytes bs 0 4 k) in
+    let e1 : word_bytes order (words_in order bs).start ≡ slice_range bs 4 8 =
+    word_bytes-word_of order (slice_range bs 4 8) (long 4 (omega arith)) (slice_range-bytes bs 4 8 k) in
+    let e2 : word_bytes order (words_in order bs).size ≡ slice_range bs 8 12 =
+    word_bytes-word_of order (slice_range bs 8 12) (long 8 (omega arith)) (slice_range-bytes bs 8 12 k) in
     ap₂ (λ (a b : List ℕ). a ++ b) (ap₂ (λ (a b : List ℕ). a ++ b) e0 e1) e2 ∙ append-slice_range_thirds bs h
 
 -- the words of a header, as bytes, are those that it reads
 pub header-reads : (z : Zone) (x : List ℕ) (w : Words) (out : List ℕ) → IsValidZone z → length x ≡ z.size → AreBytes x
-    → w ≡ words_read z x → out ≡ to_le_bytes w32 w.sig ++ to_le_bytes w32 w.start ++ to_le_bytes w32 w.size
+    → w ≡ words_read z x → out ≡ word_bytes z.byte_order w.sig ++ word_bytes z.byte_order w.start ++ word_bytes z.byte_order w.size
     → (out ≡ (part_reading z x Header).bytes) × (length out ≡ 12)
 header-reads z x w out valid size bytes ew e =
     let r = length-reading z x Header bytes in
     let twelve : length (part_reading z x Header).bytes ≡ 12 = r.0 ∙ header-length z x valid size in
     let is : out ≡ (part_reading z x Header).bytes =
-    e ∙ ap (λ (v : Words). to_le_bytes w32 v.sig ++ to_le_bytes w32 v.start ++ to_le_bytes w32 v.size) ew
-    ∙ header-bytes (part_reading z x Header).bytes twelve r.1 in
+    e ∙ ap (λ (v : Words). word_bytes z.byte_order v.sig ++ word_bytes z.byte_order v.start ++ word_bytes z.byte_order v.size) ew
+    ∙ header-bytes z.byte_order (part_reading z x Header).bytes twelve r.1 in
     (is, ap length is ∙ twelve)

@@ -1,18 +1,19 @@
 -- The stores that are handed out, as the definitions know them
 use Rattle.std.specs.Prelude.{◌≡◌, ℕ, ◌+◌, ◌≤◌, ◌↔◌, List, [], length}
+use Rattle.zone_spec.specs.declared.params.ByteOrder.{ByteOrder}
 use Rattle.zone_spec.specs.Stores.{Store, byte_stores, word_store}
 use Rattle.zone_boot.specs.declared.handing.Given.{Given}
 use Rattle.zone_boot.specs.declared.handing.Given.TheVariants.{Word, Bytes, Nothing}
 use Rattle.zone_boot.specs.declared.handing.BootStore.{BootStore}
 
-abbrev pub handed_by : Given → ℕ → ℕ → List ℕ → List Store
-handed_by Word place word bytes = word_store place word
-handed_by Bytes place word bytes = byte_stores place bytes
-handed_by Nothing place word bytes = []
+abbrev pub handed_by : Given → ByteOrder → ℕ → ℕ → List ℕ → List Store
+handed_by Word order place word bytes = word_store order place word
+handed_by Bytes order place word bytes = byte_stores place bytes
+handed_by Nothing order place word bytes = []
 
 -- a word at once, or a store for each byte
 abbrev pub handed : BootStore → List Store
-handed s = handed_by s.given s.place s.word s.bytes.items
+handed s = handed_by s.given s.byte_order s.place s.word s.bytes.items
 
 abbrev pub len_by : Given → List ℕ → ℕ
 len_by Word bytes = 4

@@ -7,7 +7,6 @@ ghost use Rattle.zone_spec.specs.Boot.{boot_fixes, boot_stores, signing, keeps a
 ghost use Rattle.zone_spec.specs.Reading.{zone_reading, state_of as state_for};
 ghost use Rattle.zone_spec.specs.Stages.{stage_count};
 ghost use Rattle.zone_spec.specs.Calls.{erase_stages};
-ghost use Rattle.std.specs.Int.{to_le_bytes};
 ghost use Rattle.std.proofs.Common.{w32};
 ghost use Rattle.rs_encode.specs.Lanes.{IsLent};
 ghost use Rattle.zone_spec.specs.Parts.{Header as HeaderPart, Block};
@@ -18,7 +17,7 @@ use crate::deciding::{Erasure, block_count, erasure_of, keeps};
 use crate::handing::BootStore;
 use crate::summaries::state_of;
 use arrayvec::ArrayVec;
-use prz_ecc::{Fix, header_parity, read_block, read_header};
+use prz_ecc::{Fix, bytes_of, header_parity, read_block, read_header};
 use zone_spec::{State, Words, Zone};
 
 /// Where a boot is: it corrects the header, and the blocks that hold the log; then it may store the signature, the
@@ -46,16 +45,6 @@ pub struct Boot {
     pub block: u32,
     pub within: u32,
     pub count: u32,
-}
-
-fn bytes_of(words: Words) -> ArrayVec<u8, 12>
-    ensures { result.items ≡ to_le_bytes w32 words.sig ++ to_le_bytes w32 words.start ++ to_le_bytes w32 words.size }
-{
-    let mut bytes: ArrayVec<u8, 12> = ArrayVec::new();
-    let _room = bytes.try_extend_from_slice(&words.sig.to_le_bytes());
-    let _room = bytes.try_extend_from_slice(&words.start.to_le_bytes());
-    let _room = bytes.try_extend_from_slice(&words.size.to_le_bytes());
-    bytes
 }
 
 fn bytes_at(image: &[u8], at: u32, len: usize) -> &[u8]
@@ -276,7 +265,7 @@ impl Boot {
     {
         let mut fixes: ArrayVec<Fix, 63> = ArrayVec::new();
         let header = read_header(table, image, &self.zone, &mut fixes);
-        let reads = bytes_of(header.words);
+        let reads = bytes_of(self.zone.byte_order, header.words);
         self.fix_header(image, reads.as_slice(), out);
         if out.is_empty() {
             self.correct_blocks(table, image, out);
@@ -406,17 +395,17 @@ impl Boot {
     {
         match self.phase {
             Phase::Signature => {
-                out.set_word(0, self.zone.sig);
+                out.set_word(self.zone.byte_order, 0, self.zone.sig);
                 self.phase = Phase::Start;
                 self.made += 1;
             }
             Phase::Start => {
-                out.set_word(4, 0);
+                out.set_word(self.zone.byte_order, 4, 0);
                 self.phase = Phase::Size;
                 self.made += 1;
             }
             Phase::Size => {
-                out.set_word(8, 0);
+                out.set_word(self.zone.byte_order, 8, 0);
                 self.phase = Phase::Parity;
                 self.made += 1;
             }

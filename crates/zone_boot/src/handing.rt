@@ -5,6 +5,7 @@ ghost use Rattle.zone_spec.specs.Stores.{byte_stores, word_store};
 ghost use Rattle.zone_spec.specs.Boot.{fix_stores};
 
 use arrayvec::ArrayVec;
+use zone_spec::ByteOrder;
 
 /// What is handed out: a word that is stored at once, bytes that are stored one by one, rising, or nothing more.
 #[derive(Clone, Copy, Debug, PartialEq, Eq)]
@@ -14,11 +15,12 @@ pub enum Given {
     Nothing,
 }
 
-/// The next stores of a boot in a zone. `place` is counted from the zone's first byte; `word` is stored little-endian.
+/// The next stores of a boot in a zone. `place` is counted from the zone's first byte; `word` is stored in `byte_order`.
 #[derive(Drop)]
 pub struct BootStore {
     pub given: Given,
     pub place: u32,
+    pub byte_order: ByteOrder,
     pub word: u32,
     pub bytes: ArrayVec<u8, 128>,
 }
@@ -79,6 +81,7 @@ impl BootStore {
         BootStore {
             given: Given::Nothing,
             place: 0,
+            byte_order: ByteOrder::Little,
             word: 0,
             bytes: ArrayVec::new(),
         }
@@ -116,13 +119,14 @@ impl BootStore {
         self.bytes.clear();
     }
 
-    pub(crate) fn set_word(&mut self, place: u32, word: u32)
-        ensures handed { handed self.new ≡ word_store place word }
+    pub(crate) fn set_word(&mut self, order: ByteOrder, place: u32, word: u32)
+        ensures handed { handed self.new ≡ word_store order place word }
         ensures len { self.new.place + handed_len self.new ≡ place + 4 }
         ensures plain { IsPlain self.new }
     {
         self.given = Given::Word;
         self.place = place;
+        self.byte_order = order;
         self.word = word;
         self.bytes.clear();
     }

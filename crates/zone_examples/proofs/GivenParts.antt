@@ -28,8 +28,8 @@ reading_in_parts z part w other = record {
 }
 
 abbrev pub reading_of_parts : Zone → (Part → PartReading) → ZoneReading
-reading_of_parts z part = reading_in_parts z part (words_in (part Header).bytes)
-    (state_of z (words_in (part Header).bytes))
+reading_of_parts z part = reading_in_parts z part (words_in z.byte_order (part Header).bytes)
+    (state_of z (words_in z.byte_order (part Header).bytes))
 
 in_parts : (z : Zone) (image : List ℕ) (w : Words) (s : State)
     → reading_in z image w s ≡ reading_in_parts z (part_reading z image) w s

@@ -56,7 +56,7 @@ booted-is = ap (after_stores (replicate 4096 0)) (given_stores console_of_sixtee
 -- an append with given parities to it
 abbrev pub written : List ℕ → List (List ℕ) → List ℕ
 written payload ps = after_stores booted (with_given console_of_sixteen
-    (call_stages console_of_sixteen (standing_words booted) (Append payload)) ps booted)
+    (call_stages console_of_sixteen (standing_words console_of_sixteen booted) (Append payload)) ps booted)
 
 abbrev pub three : List ℕ
 three = written abc (abc_parity ∷ three_parity ∷ [])
@@ -66,7 +66,7 @@ unfolding computing
 three-is =
     ap (λ image. after_stores image (call_stores console_of_sixteen (Append abc) image)) booted-is
     ∙ ap (after_stores booted) (given_stores console_of_sixteen
-    (call_stages console_of_sixteen (standing_words booted) (Append abc)) (abc_parity ∷ three_parity ∷ [])
+    (call_stages console_of_sixteen (standing_words console_of_sixteen booted) (Append abc)) (abc_parity ∷ three_parity ∷ [])
     booted refl)
 
 -- a reading of a zone that was found
@@ -112,12 +112,12 @@ def_parities = abcdef_parity ∷ six_parity ∷ []
 -- the image after so many of its stores
 abbrev pub cut_at : ℕ → List ℕ
 cut_at k = after_stores three (take k (with_given console_of_sixteen
-    (call_stages console_of_sixteen (standing_words three) (Append def)) def_parities three))
+    (call_stages console_of_sixteen (standing_words console_of_sixteen three) (Append def)) def_parities three))
 
 pub cut_at-is : (k : ℕ) → image_after console_of_sixteen (Append def) three k ≡ cut_at k
 unfolding computing
 cut_at-is k = ap (λ stores. after_stores three (take k stores))
-    (given_stores console_of_sixteen (call_stages console_of_sixteen (standing_words three) (Append def))
+    (given_stores console_of_sixteen (call_stages console_of_sixteen (standing_words console_of_sixteen three) (Append def))
     def_parities three refl)
 
 pub first_store-reads : zone_reading console_of_sixteen (cut_at 1) ≡ found 3 3 1 0 abc
@@ -158,7 +158,7 @@ unfolding computing
 two_hundred-is =
     ap (λ image. after_stores image (call_stores console_of_sixteen (Append (replicate 200 0x61)) image)) booted-is
     ∙ ap (after_stores booted) (given_stores console_of_sixteen
-    (call_stages console_of_sixteen (standing_words booted) (Append (replicate 200 0x61)))
+    (call_stages console_of_sixteen (standing_words console_of_sixteen booted) (Append (replicate 200 0x61)))
     (first_parity ∷ second_parity ∷ two_hundred_parity ∷ []) booted refl)
 
 abbrev pub nine_flipped : List ℕ

@@ -31,7 +31,7 @@ booted-is = ap (after_stores (replicate 4096 0)) (given_stores console_of_two (S
 
 abbrev pub three : List ℕ
 three = after_stores booted (with_given console_of_two
-    (call_stages console_of_two (standing_words booted) (Append abc)) ((0xe3 ∷ 0x83 ∷ []) ∷ (0xfb ∷ 0xf9 ∷ []) ∷ [])
+    (call_stages console_of_two (standing_words console_of_two booted) (Append abc)) ((0xe3 ∷ 0x83 ∷ []) ∷ (0xfb ∷ 0xf9 ∷ []) ∷ [])
     booted)
 
 pub three-is : zone_written console_of_two abc ≡ three
@@ -39,19 +39,19 @@ unfolding computing
 three-is =
     ap (λ image. after_stores image (call_stores console_of_two (Append abc) image)) booted-is
     ∙ ap (after_stores booted) (given_stores console_of_two
-    (call_stages console_of_two (standing_words booted) (Append abc))
+    (call_stages console_of_two (standing_words console_of_two booted) (Append abc))
     ((0xe3 ∷ 0x83 ∷ []) ∷ (0xfb ∷ 0xf9 ∷ []) ∷ []) booted refl)
 
 -- ---- a second append cut behind both words
 
 abbrev pub cut_at : ℕ → List ℕ
 cut_at k = after_stores three (take k (with_given console_of_two
-    (call_stages console_of_two (standing_words three) (Append def)) ((190 ∷ 185 ∷ []) ∷ (213 ∷ 215 ∷ []) ∷ []) three))
+    (call_stages console_of_two (standing_words console_of_two three) (Append def)) ((190 ∷ 185 ∷ []) ∷ (213 ∷ 215 ∷ []) ∷ []) three))
 
 pub cut_at-is : (k : ℕ) → image_after console_of_two (Append def) three k ≡ cut_at k
 unfolding computing
 cut_at-is k = ap (λ stores. after_stores three (take k stores))
-    (given_stores console_of_two (call_stages console_of_two (standing_words three) (Append def))
+    (given_stores console_of_two (call_stages console_of_two (standing_words console_of_two three) (Append def))
     ((190 ∷ 185 ∷ []) ∷ (213 ∷ 215 ∷ []) ∷ []) three refl)
 
 pub between_words-reads : zone_reading console_of_two (cut_at 2)

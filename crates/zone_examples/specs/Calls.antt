@@ -92,7 +92,7 @@ and_one_byte image byte = image_after (plain_zone console 0) (AppendOf byte) ima
 abbrev pub WrappedLargeRing : Type 0
 WrappedLargeRing =
     let image = and_one_byte (full (replicate 4084 0x61)) (0x62 ∷ []) in
-    let words = standing_words image in
+    let words = standing_words (plain_zone console 0) image in
     (words ≡ record { sig = 0x43474244; start = 1; size = 4084 })
     × (log_places words.start words.size ≡ range_with_len 1 4083 ++ 0 ∷ [])
     × (map (λ place. byte_read (plain_zone console 0) image place) (1 ∷ 2 ∷ 2048 ∷ 4083 ∷ 0 ∷ [])
@@ -102,7 +102,7 @@ WrappedLargeRing =
 abbrev pub CutErasureOfLargeRing : Type 0
 CutErasureOfLargeRing =
     let image = image_after (plain_zone console 0) EraseOf (and_one_byte (full (letters 0 4084)) (0x21 ∷ [])) 1 in
-    let words = standing_words image in
+    let words = standing_words (plain_zone console 0) image in
     (words ≡ record { sig = 0x43474244; start = 0; size = 4084 })
     × (log_places words.start words.size ≡ range_with_len 0 4084)
     × (map (λ place. byte_read (plain_zone console 0) image place) (0 ∷ 1 ∷ 2 ∷ 4083 ∷ [])

@@ -10,6 +10,7 @@ use Rattle.zone_spec.specs.declared.params.LayoutFault.TheVariants.{ZoneTooSmall
 use Rattle.zone_spec.specs.Layout.{layout_of}
 use Rattle.zone_examples.specs.Zones.{console, pmsg, dump, ftrace, lone_console, four_zones, two_processors}
 use Rattle.zone_examples.specs.Zones.{console_of_two}
+use Rattle.zone_spec.specs.declared.params.ByteOrder.TheVariants.{Little}
 
 -- what is not given: no memory, zones of 4096 bytes, no parity, one processor, blocks of 128 bytes
 abbrev pub default : Params
@@ -28,6 +29,7 @@ default = record {
   ecc_ftrace = 0;
   ecc_pmsg = 0;
   order = FtracePmsg;
+  byte_order = Little;
 }
 
 -- so many parity bytes for every kind
@@ -46,6 +48,7 @@ zone name at size cap blocks parity block =
       parity = parity;
       sig = 0x43474244;
       block = block;
+      byte_order = Little;
     }
 
 -- a console alone, without parity and with two parity bytes; four zones; two processors

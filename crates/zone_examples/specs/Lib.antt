@@ -15,3 +15,4 @@ pub mod Damage
 pub mod Bounds
 pub mod Parity
 pub mod Codes
+pub mod BigEndian

@@ -19,6 +19,7 @@ use Rattle.zone_examples.specs.Zones.{console, console_of_two, console_of_sixtee
 use Rattle.zone_examples.specs.Scenes.{abc, signature, zone_booted, zone_written}
 use Rattle.zone_examples.specs.Shown.{Boots, zone_shown, boot, and_cut, run, left, contents}
 use Rattle.zone_examples.specs.Damage.{flipped_from, idle, foreign_header}
+use Rattle.zone_spec.specs.declared.params.ByteOrder.TheVariants.{Little}
 
 -- a console of 2048 bytes with sixteen parity bytes: fifteen blocks, the last without data
 abbrev pub unused_block : Zone
@@ -31,6 +32,7 @@ unused_block = record {
   parity = 16;
   sig = 0x43474244;
   block = 128;
+  byte_order = Little;
 }
 
 -- the last block of a zone, and the header's parity behind that of all blocks, also of one without data
@@ -109,6 +111,7 @@ one_byte = record {
   parity = 1;
   sig = 0x43474244;
   block = 32;
+  byte_order = Little;
 } ∷ []
 
 abbrev pub SessionWithParity : Type 0

@@ -3,6 +3,7 @@ use Rattle.std.specs.Prelude.{ℕ, ◌*◌, List, [], ◌∷◌}
 use Rattle.zone_spec.specs.declared.Zone.{Zone}
 use Rattle.zone_spec.specs.declared.ZoneName.{ZoneName}
 use Rattle.zone_spec.specs.declared.Kind.TheVariants.{Dump, Console, Ftrace, Pmsg}
+use Rattle.zone_spec.specs.declared.params.ByteOrder.TheVariants.{Little}
 
 abbrev pub console : ZoneName
 console = record { kind = Console; index = 0 }
@@ -27,6 +28,7 @@ plain_zone name at = record {
   parity = 0;
   sig = 0x43474244;
   block = 128;
+  byte_order = Little;
 }
 
 -- mem_size=4096 record_size=0 ftrace_size=0 pmsg_size=0: a console alone
@@ -44,6 +46,7 @@ small_zone name at = record {
   parity = 0;
   sig = 0x43474244;
   block = 128;
+  byte_order = Little;
 }
 
 abbrev pub small_console : List Zone
@@ -71,6 +74,7 @@ ftrace_zone i = record {
   parity = 0;
   sig = 0x43474244;
   block = 128;
+  byte_order = Little;
 }
 
 abbrev pub two_processors : List Zone
@@ -87,6 +91,7 @@ console_of_two = record {
   parity = 2;
   sig = 0x43474244;
   block = 128;
+  byte_order = Little;
 }
 
 -- a console zone with sixteen: that of the four zones with ecc=1
@@ -100,4 +105,5 @@ console_of_sixteen = record {
   parity = 16;
   sig = 0x43474244;
   block = 128;
+  byte_order = Little;
 }

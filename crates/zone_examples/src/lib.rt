@@ -1,6 +1,7 @@
 //! Worked rows of the store's definitions: each function's contract is a row, whose expected values stand in `specs/`.
 #![tactic(auto)]
 
+pub mod big_endian;
 pub mod boots;
 pub mod bounds;
 pub mod calls;

@@ -45,7 +45,7 @@ call_stages z w call = flat_map (λ part. part) (call_parts z w call)
 
 -- the stores of a call on a zone's image
 unfoldable pub call_stores : Zone → Call → List ℕ → List Store
-call_stores z call image = stores_in_turn z (call_stages z (standing_words image) call) image
+call_stores z call image = stores_in_turn z (call_stages z (standing_words z image) call) image
 
 -- the image after the first k stores of a call
 abbrev pub image_after : Zone → Call → List ℕ → ℕ → List ℕ
@@ -54,7 +54,7 @@ image_after z call image k = after_stores image (take k (call_stores z call imag
 -- what a call asks of a zone in ring form: an append wants a ring that can be appended to, a dump a line
 -- shorter than the zone
 abbrev pub CanBegin : Zone → List ℕ → Call → Type 0
-CanBegin z image (Append payload) = IsOpen (standing_words image) z.cap × AreBytes payload
+CanBegin z image (Append payload) = IsOpen (standing_words z image) z.cap × AreBytes payload
 CanBegin z image Erase = Unit {0}
 CanBegin z image (Dump line body) = (0 < length line) × (length line < z.cap) × AreBytes line × AreBytes body
 

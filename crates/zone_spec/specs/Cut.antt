@@ -28,8 +28,8 @@ pub record Cut : Type 0 where
   pub made : ℕ
 
 -- the words before it
-abbrev pub words_before : Cut → Words
-words_before cut = words_in cut.header
+abbrev pub words_before : Zone → Cut → Words
+words_before z cut = words_in z.byte_order cut.header
 
 -- its kind
 abbrev pub kind_by : CutBy → CallKind
@@ -47,7 +47,7 @@ parts_by z w ByBoot = (signing z (state_of z w) ++ erase_stages) ∷ []
 
 -- its parts, those after the cut too
 abbrev pub cut_parts : Zone → Cut → List (List Stage)
-cut_parts z cut = parts_by z (words_before cut) cut.by
+cut_parts z cut = parts_by z (words_before z cut) cut.by
 
 -- its stages, end to end
 abbrev pub cut_stages : Zone → Cut → List Stage
@@ -55,7 +55,7 @@ cut_stages z cut = flat_map (λ part. part) (cut_parts z cut)
 
 -- its pairs: pair 0 is the words before it
 abbrev pub cut_pairs : Zone → Cut → List Pair
-cut_pairs z cut = pairs_from (pair_of (words_before cut)) (cut_stages z cut)
+cut_pairs z cut = pairs_from (pair_of (words_before z cut)) (cut_stages z cut)
 
 -- whether the whole call touches a block
 abbrev pub is_touched : Zone → Cut → ℕ → Bool

@@ -85,6 +85,7 @@ zone_at p kind size index at =
       parity = r;
       sig = bit_xor plain_sig (tag_of p kind);
       block = p.block;
+      byte_order = p.byte_order;
     }
 
 -- the zones of these rows, each directly behind the one before it

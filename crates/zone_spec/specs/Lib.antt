@@ -1,5 +1,6 @@
 pub mod Numbers
 pub mod Zones
+pub mod WordBytes
 pub mod Parts
 pub mod PartReadings
 pub mod Reading

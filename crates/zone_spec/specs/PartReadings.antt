@@ -25,4 +25,4 @@ part_reading z image p =
 
 -- the words that a zone's header reads
 abbrev pub words_read : Zone → List ℕ → Words
-words_read z image = words_in (part_reading z image Header).bytes
+words_read z image = words_in z.byte_order (part_reading z image Header).bytes

@@ -1,11 +1,11 @@
 -- The parts of a zone's image: which bytes and which parity make a word (fs/pstore/ram_core.c,
 -- persistent_ram_init_ecc)
 use Rattle.std.specs.Prelude.{◌≡◌, ℕ, ◌+◌, ◌-◌, ◌*◌, ◌<◌, min, List, ◌++◌, length, slice_index, slice_range}
-use Rattle.std.specs.Int.{from_le_bytes}
-use Rattle.std.proofs.Common.{w32}
 use Rattle.zone_spec.specs.declared.Zone.{Zone}
 use Rattle.zone_spec.specs.declared.Words.{Words}
+use Rattle.zone_spec.specs.declared.params.ByteOrder.{ByteOrder}
 use Rattle.zone_spec.specs.Numbers.{header_len, start_at, size_at}
+use Rattle.zone_spec.specs.WordBytes.{word_of}
 
 -- a list of bytes
 abbrev pub AreBytes : List ℕ → Type 0
@@ -49,13 +49,13 @@ unfoldable pub part_word : Zone → List ℕ → Part → List ℕ
 part_word z image p = part_bytes z image p ++ slice_range image (part_parity_at z p) (part_parity_at z p + z.parity)
 
 -- the words of a header's twelve bytes (struct persistent_ram_buffer)
-abbrev pub words_in : List ℕ → Words
-words_in bytes = record {
-  sig = from_le_bytes w32 (slice_range bytes 0 start_at);
-  start = from_le_bytes w32 (slice_range bytes start_at size_at);
-  size = from_le_bytes w32 (slice_range bytes size_at header_len);
+abbrev pub words_in : ByteOrder → List ℕ → Words
+words_in order bytes = record {
+  sig = word_of order (slice_range bytes 0 start_at);
+  start = word_of order (slice_range bytes start_at size_at);
+  size = word_of order (slice_range bytes size_at header_len);
 }
 
 -- the words as they stand in a zone's image
-abbrev pub standing_words : List ℕ → Words
-standing_words image = words_in (slice_range image 0 header_len)
+abbrev pub standing_words : Zone → List ℕ → Words
+standing_words z image = words_in z.byte_order (slice_range image 0 header_len)

@@ -27,11 +27,11 @@ IsOpenUnlessDump other w cap = IsOpen w cap
 -- the standing words are a ring with the zone's signature, the log places have the told bytes, and
 -- header and blocks read as they stand
 pub record IsRingForm (z : Zone) (image told : List ℕ) : Type 0 where
-  pub ring : IsRing (standing_words image) z.cap
-  pub signed : (standing_words image).sig ≡ z.sig
-  pub told_length : (standing_words image).size ≡ length told
+  pub ring : IsRing (standing_words z image) z.cap
+  pub signed : (standing_words z image).sig ≡ z.sig
+  pub told_length : (standing_words z image).size ≡ length told
   pub bytes : map (λ place. slice_index image (header_len + place))
-      (log_places (standing_words image).start (standing_words image).size) ≡ told
-  pub is_open : IsOpenUnlessDump z.name.kind (standing_words image) z.cap
+      (log_places (standing_words z image).start (standing_words z image).size) ≡ told
+  pub is_open : IsOpenUnlessDump z.name.kind (standing_words z image) z.cap
   pub header : ReadsAsStands z image Header
-  pub blocks : (b : ℕ) → z.block * b < (standing_words image).size → ReadsAsStands z image (Block b)
+  pub blocks : (b : ℕ) → z.block * b < (standing_words z image).size → ReadsAsStands z image (Block b)

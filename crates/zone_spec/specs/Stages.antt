@@ -17,9 +17,9 @@ pub data Stage : Type 0 where
 
 -- the stores of a stage on an image
 unfoldable pub stage_stores : Zone → Stage → List ℕ → List Store
-stage_stores z (SigWord n) image = word_store 0 n
-stage_stores z (StartWord n) image = word_store start_at n
-stage_stores z (SizeWord n) image = word_store size_at n
+stage_stores z (SigWord n) image = word_store z.byte_order 0 n
+stage_stores z (StartWord n) image = word_store z.byte_order start_at n
+stage_stores z (SizeWord n) image = word_store z.byte_order size_at n
 stage_stores z (Run place bytes) image = byte_stores (header_len + place) bytes
 stage_stores z (ParityOf part) image = byte_stores (part_parity_at z part)
     (parity_of z.parity (part_bytes z image part))

@@ -1,7 +1,7 @@
 -- Stores, and an image after some of them
 use Rattle.std.specs.Prelude.{ℕ, ◌+◌, List, [], ◌∷◌, set}
-use Rattle.std.specs.Int.{to_le_bytes}
-use Rattle.std.proofs.Common.{w32}
+use Rattle.zone_spec.specs.declared.params.ByteOrder.{ByteOrder}
+use Rattle.zone_spec.specs.WordBytes.{word_bytes}
 
 -- bytes put at a place of the image at once: a word's four, or one
 pub record Store : Type 0 where
@@ -23,6 +23,6 @@ unfoldable pub byte_stores : ℕ → List ℕ → List Store
 byte_stores place [] = []
 byte_stores place (b ∷ bs) = record { place = place; bytes = b ∷ [] } ∷ byte_stores (place + 1) bs
 
--- one store of a word, little-endian
-abbrev pub word_store : ℕ → ℕ → List Store
-word_store place n = record { place = place; bytes = to_le_bytes w32 n } ∷ []
+-- one store of a word
+abbrev pub word_store : ByteOrder → ℕ → ℕ → List Store
+word_store order place n = record { place = place; bytes = word_bytes order n } ∷ []

@@ -1,10 +1,10 @@
 -- The header before and after each part of a cut call
 use Rattle.std.specs.Prelude.{ℕ, ◌-◌, if◌then◌else◌, nat_le, List, [], ◌∷◌, ◌++◌, sum_by, Option, Some, None}
-use Rattle.std.specs.Int.{to_le_bytes}
-use Rattle.std.proofs.Common.{w32}
 use Rattle.zone_spec.specs.declared.Zone.{Zone}
 use Rattle.zone_spec.specs.declared.Words.{Words}
 use Rattle.code_spec.specs.Code.{nearest, parity_of}
+use Rattle.zone_spec.specs.declared.params.ByteOrder.{ByteOrder}
+use Rattle.zone_spec.specs.WordBytes.{word_bytes}
 use Rattle.zone_spec.specs.Parts.{words_in}
 use Rattle.zone_spec.specs.Stages.{Stage, SigWord, StartWord, SizeWord, stage_count}
 use Rattle.zone_spec.specs.Cut.{Cut, cut_parts}
@@ -18,9 +18,10 @@ words_after w (SizeWord n ∷ gs) = words_after (record w { size = n }) gs
 words_after w (g ∷ gs) = words_after w gs
 
 -- a header with its parity
-abbrev pub header_codeword : ℕ → Words → List ℕ
-header_codeword r w =
-    let bytes = to_le_bytes w32 w.sig ++ to_le_bytes w32 w.start ++ to_le_bytes w32 w.size in bytes ++ parity_of r bytes
+abbrev pub header_codeword : ByteOrder → ℕ → Words → List ℕ
+header_codeword order r w =
+    let bytes = word_bytes order w.sig ++ word_bytes order w.start ++ word_bytes order w.size in
+    bytes ++ parity_of r bytes
 
 -- a part of a call: its number of stores, the words before it and after its last store, the nearest
 -- codeword of the header before it, and the header after it with its parity
@@ -35,10 +36,10 @@ pub record Window : Type 0 where
 abbrev pub window : Zone → List ℕ → List Stage → Window
 window z header stages = record {
   stores = sum_by (stage_count z) stages;
-  opening = words_in header;
-  closing = words_after (words_in header) stages;
+  opening = words_in z.byte_order header;
+  closing = words_after (words_in z.byte_order header) stages;
   opening_codeword = nearest z.parity header;
-  closing_codeword = header_codeword z.parity (words_after (words_in header) stages);
+  closing_codeword = header_codeword z.byte_order z.parity (words_after (words_in z.byte_order header) stages);
 }
 
 -- each part begins with the header that the one before it left; a part of no stages has no window

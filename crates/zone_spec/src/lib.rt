@@ -4,7 +4,7 @@
 
 mod params;
 
-pub use params::{LayoutFault, Order, Params, Row};
+pub use params::{ByteOrder, LayoutFault, Order, Params, Row};
 
 /// What a zone is for (`include/linux/pstore.h`: `dmesg`, `console`, `ftrace` and `pmsg`).
 #[derive(Clone, Copy, Debug, PartialEq, Eq)]
@@ -26,7 +26,8 @@ pub struct ZoneName {
 ///
 /// All lengths are in bytes: `at` is the zone's place in the image, `size` its length, `cap` that of its data,
 /// `block` the data of one parity block, `parity` the parity bytes of each part. `blocks` is the number of parity
-/// blocks, and `sig` the whole signature, 0x43474244 exclusive-or the zone's tag.
+/// blocks, and `sig` the whole signature, 0x43474244 exclusive-or the zone's tag. `byte_order` is that of the header's
+/// words.
 #[derive(Clone, Copy, Debug, PartialEq, Eq)]
 pub struct Zone {
     pub name: ZoneName,
@@ -37,9 +38,10 @@ pub struct Zone {
     pub parity: u32,
     pub sig: u32,
     pub block: u32,
+    pub byte_order: ByteOrder,
 }
 
-/// The three words of a zone's header, each 32 bits, little-endian (`struct persistent_ram_buffer`).
+/// The three words of a zone's header, each 32 bits, in the zone's byte order (`struct persistent_ram_buffer`).
 #[derive(Clone, Copy, Debug, PartialEq, Eq)]
 pub struct Words {
     pub sig: u32,

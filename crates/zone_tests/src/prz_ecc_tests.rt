@@ -11,7 +11,7 @@ use prz_ecc::{
 use ramoops_layout::types::Layout;
 use ramoops_layout::{Params, layout};
 use std::process::Abort;
-use zone_spec::{Order, Zone};
+use zone_spec::{ByteOrder, Order, Zone};
 
 const PARAMS: Params = Params {
     mem: 4096,
@@ -28,6 +28,7 @@ const PARAMS: Params = Params {
     ecc_ftrace: 2,
     ecc_pmsg: 2,
     order: Order::FtracePmsg,
+    byte_order: ByteOrder::Little,
 };
 
 // A record of `abc` with its parities, under this start and size.

@@ -7,7 +7,7 @@ use ramoops_layout::{Params, layout};
 use std::alloc::{AllocError, Global};
 use std::process::Abort;
 use std::test::Fail;
-use zone_spec::{Kind, Order, PartState, Zone, ZoneName};
+use zone_spec::{ByteOrder, Kind, Order, PartState, Zone, ZoneName};
 
 const SIGNATURE: [u8; 4] = [0x44, 0x42, 0x47, 0x43];
 
@@ -60,6 +60,7 @@ pub(crate) fn params(
         ecc_ftrace: ecc,
         ecc_pmsg: ecc,
         order: Order::FtracePmsg,
+        byte_order: ByteOrder::Little,
     }
 }
 
@@ -427,6 +428,7 @@ fn is_kept(
         parity: 0,
         sig: 0x4347_4244,
         block: 128,
+        byte_order: ByteOrder::Little,
     };
     let words = Words {
         sig: 0x4347_4244,

@@ -6,7 +6,7 @@ use prz_region::{Probe, Region, RingWords, Spans};
 use ramoops_layout::{Params, layout};
 use std::process::Abort;
 use std::test::Fail;
-use zone_spec::{Kind, Order, Words, Zone, ZoneName};
+use zone_spec::{ByteOrder, Kind, Order, Words, Zone, ZoneName};
 
 fn zone(index: u32, at: u32, size: u32) -> Zone
     ensures at { result.at ≡ at }
@@ -24,6 +24,7 @@ fn zone(index: u32, at: u32, size: u32) -> Zone
         parity: 0,
         sig: 0,
         block: 128,
+        byte_order: ByteOrder::Little,
     }
 }
 
@@ -44,6 +45,7 @@ fn params() -> Params {
         ecc_ftrace: 0,
         ecc_pmsg: 0,
         order: Order::FtracePmsg,
+        byte_order: ByteOrder::Little,
     }
 }
 
@@ -90,7 +92,8 @@ fn assert_stored(rt: &impl Abort, spans: &Spans)
     requires fourth { length (span spans.now 3) ≡ 256 }
 {
     let all = spans.all();
-    assert!(rt; all[1].load(0) == 2 && all[3].word(0) == 0x1234_5678);
+    assert!(rt; all[1].load(0) == 2 && all[3].word(ByteOrder::Little, 0) == 0x1234_5678);
+    assert!(rt; all[3].word(ByteOrder::Big, 0) == 0x7856_3412);
     assert!(rt; all[3].bytes()[..5] == [0x78, 0x56, 0x34, 0x12, 7]);
 }
 
@@ -120,7 +123,7 @@ fn store_in_all(spans: &mut Spans)
     spans.store(0, 595, 1);
     spans.store(1, 0, 2);
     spans.store(2, 595, 3);
-    spans.store_word(3, 0, 0x1234_5678);
+    spans.store_word(3, 0, ByteOrder::Little, 0x1234_5678);
 }
 
 #[test]
@@ -140,7 +143,7 @@ fn fills_a_probe(rt: HostRuntime) -> Result<(), Fail> {
     let mut probe = Probe::new(rt.alloc(), 8)?;
     probe.fill(2, b"abc");
     assert!(rt; probe.span().bytes() == [0, 0, 97, 98, 99, 0, 0, 0].as_slice());
-    assert!(rt; probe.span().word(1) == 0x6362_6100);
+    assert!(rt; probe.span().word(ByteOrder::Little, 1) == 0x6362_6100);
     let empty = Probe::new(rt.alloc(), 0)?;
     assert!(rt; empty.span().bytes().is_empty());
     Ok(())

@@ -8,7 +8,7 @@ use prz_region::{Region, RingWords, Spans};
 use prz_write::{Call, CallKind, Flight, Line36, Step};
 use ramoops_layout::layout;
 use std::process::Abort;
-use zone_spec::{Kind, Order, Params, Words, Zone, ZoneName};
+use zone_spec::{ByteOrder, Kind, Order, Params, Words, Zone, ZoneName};
 
 const SIG: u32 = 0x4347_4244;
 
@@ -33,6 +33,7 @@ fn zone(rt: &impl Abort, parity: u32) -> Zone
         parity,
         sig: SIG,
         block: 128,
+        byte_order: ByteOrder::Little,
     }
 }
 
@@ -53,6 +54,7 @@ fn signed_spans(rt: &(impl Abort + AllocGlobal)) -> Spans {
         ecc_ftrace: 0,
         ecc_pmsg: 0,
         order: Order::FtracePmsg,
+        byte_order: ByteOrder::Little,
     };
     let layout = match layout(rt.alloc(), &params) {
         Ok(layout) => layout,
@@ -81,12 +83,12 @@ fn put_word(rt: &impl Abort, spans: &mut Spans, i: u32, at: u32, word: u32)
     requires { at ≤ 8 }
 {
     has_span(rt, spans, i);
-    spans.store_word(i, at, word);
+    spans.store_word(i, at, ByteOrder::Little, word);
 }
 
 fn words(rt: &impl Abort, spans: &Spans, i: u32) -> (u32, u32, u32) {
     has_span(rt, spans, i);
-    let words = Words::read(&spans.all()[i as usize]);
+    let words = Words::read(ByteOrder::Little, &spans.all()[i as usize]);
     (words.sig, words.start, words.size)
 }
 
@@ -108,7 +110,7 @@ fn begin(rt: &impl Abort, zone: Zone, spans: &Spans, i: u32, call: Call) -> Flig
 {
     has_span(rt, spans, i);
     let span = &spans.all()[i as usize];
-    let words = Words::read(span);
+    let words = Words::read(zone.byte_order, span);
     assert!(rt; words.is_ring(zone.cap));
     assert!(rt; words.start < zone.cap);
     assert!(rt; words.size == zone.cap || words.start == words.size);

@@ -9,7 +9,7 @@ ghost use Rattle.rs_encode.specs.Lanes.{IsLent};
 use prz_ecc::Coder;
 use std::process::Abort;
 use store_steps::{CallKind, Given, Leg, Phase, Place, Steps, Store, Zone};
-use zone_spec::{Kind, ZoneName};
+use zone_spec::{ByteOrder, Kind, ZoneName};
 
 const SIG: u32 = 0x4347_4244;
 
@@ -37,6 +37,7 @@ fn zone(rt: &impl Abort) -> Zone
         parity: 2,
         sig: SIG,
         block: 128,
+        byte_order: ByteOrder::Little,
     };
     let _ = rt;
     zone

@@ -15,7 +15,7 @@ part c =
 
 pub returns-clause-words : goal.returns-clause-words
 returns-clause-words c =
-    c.words_of.ensures ∙ ap (λ (bs : List ℕ). words_in bs)
+    c.words_of.ensures ∙ ap (λ (bs : List ℕ). words_in c.args.zone.now.byte_order bs)
     (c.as_slice.ensures.value ∙ data_is _ _ _ _ _ _ (part c) c.correct-outcome.ensures.data)
 
 pub returns-clause-outcome : goal.returns-clause-outcome

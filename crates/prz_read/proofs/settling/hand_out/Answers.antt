@@ -12,4 +12,4 @@ fix_header-requires-clause-reads c =
     (ap length c.bytes-image.ensures ∙ c.requires.size) (λ k. (c.type_inv.image k).fits)
     (ap (λ (r : ZoneReading). r.words) c.reading.view_is ∙ c.requires.words c.in-Header.is
     ∙ ap (words_read z) (sym c.bytes-image.ensures))
-    (c.as_slice.ensures.value ∙ c.bytes_of.ensures)).0
+    (c.as_slice.ensures.value ∙ c.bytes_of-reads.ensures)).0

@@ -20,7 +20,7 @@ returns-in-Nothing c =
     let o = c.args.out.now in
     sym (stored-none c.args.spans.now c.args.i)
     ∙ ap (λ (ss : List Store). stored c.args.spans.now c.args.i ss) (sym (take_all c.args.left [] (omega arith))
-    ∙ ap (λ (g : Given). take c.args.left (handed_by g o.place o.word o.bytes.items)) (sym c.in-Nothing.is))
+    ∙ ap (λ (g : Given). take c.args.left (handed_by g o.byte_order o.place o.word o.bytes.items)) (sym c.in-Nothing.is))
 
 pub returns-in-Bytes : goal.returns-in-Bytes
 returns-in-Bytes c =
@@ -29,4 +29,4 @@ returns-in-Bytes c =
     ∙ ap (λ (ss : List Store). stored c.args.spans.now c.args.i ss)
     (run-taken o.place o.bytes.items c.as_slice-bytes.result.now c.args.left _ c.as_slice-bytes.ensures.value
     (c.min-count.ensures ∙ ap (λ (l : List ℕ). min c.args.left (length l)) c.as_slice-bytes.ensures.value)
-    ∙ ap (λ (g : Given). take c.args.left (handed_by g o.place o.word o.bytes.items)) (sym c.in-Bytes.is))
+    ∙ ap (λ (g : Given). take c.args.left (handed_by g o.byte_order o.place o.word o.bytes.items)) (sym c.in-Bytes.is))

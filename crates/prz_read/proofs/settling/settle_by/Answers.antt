@@ -51,7 +51,7 @@ hand_out-requires-clause-words c = λ h.
     c.all-in-loop-tail.result.now c.index-all-i-in-loop-tail.result c.all-in-loop-tail.ensures
     c.index-all-i-in-loop-tail.is in
     ap (λ (r : ZoneReading). r.words) c.requires.reading ∙ reading_words z x
-    ∙ ap words_in (sym (was.reads (subst IsFixing (sym h) tt) Header))
+    ∙ ap (words_in z.byte_order) (sym (was.reads (subst IsFixing (sym h) tt) Header))
     ∙ ap₂ (λ (v : Zone) (y : List ℕ). words_read v y) (sym was.zone) (sym there)
 
 pub hand_out-requires-clause-block : goal.hand_out-requires-clause-block

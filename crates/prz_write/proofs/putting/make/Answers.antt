@@ -10,7 +10,7 @@ use Rattle.prz_write.proofs.putting.make.Goals as goal
 pub returns-in-Word : goal.returns-in-Word
 returns-in-Word c =
     made c.args.store.now c.args.line.now c.args.payload.now c.args.spans.now c.args.i _
-    (word_store c.args.store.now.place c.args.store.now.word)
+    (word_store c.args.store.now.byte_order c.args.store.now.place c.args.store.now.word)
     (ap (λ g. handed_by g c.args.store.now c.args.line.now c.args.payload.now) c.in-Word.is)
     c.store_word.ensures
 

@@ -9,6 +9,7 @@ use Rattle.machine_spec.specs.Zones.{zone_bytes}
 use Rattle.shared_spec.specs.Machine.{CanShare}
 use Rattle.shared_ring.proofs.Shareable.{lies_in, opens, shares_opened, zone_got}
 use Rattle.shared_ring.proofs.opening.can_open.Goals as goal
+use Rattle.zone_spec.specs.declared.params.ByteOrder.TheVariants.{Little}
 
 -- what is read past the end
 abbrev blank : Zone
@@ -21,6 +22,7 @@ blank = record {
   parity = 0;
   sig = 0;
   block = 0;
+  byte_order = Little;
 }
 
 pub can_share-requires-clause-valid : goal.can_share-requires-clause-valid

@@ -6,15 +6,15 @@ use Rattle.prz_region.proofs.spans.Spans.store_pair.Goals as goal
 
 pub store_array-requires : goal.store_array-requires
 store_array-requires c =
-    let first = c.to_le_bytes in
-    let second = c.to_le_bytes-2 in (
+    let first = c.bytes in
+    let second = c.bytes-2 in (
       lit< tt,
       (
         c.requires.span,
         (
           c.requires.place,
-          AreBytes-eight first.result second.result (subst AreBytes (sym first.ensures) (AreBytes-word c.args.first))
-              (subst AreBytes (sym second.ensures) (AreBytes-word c.args.second)),
+          AreBytes-eight first.result second.result (subst AreBytes (sym first.ensures) (AreBytes-word c.args.order c.args.first))
+              (subst AreBytes (sym second.ensures) (AreBytes-word c.args.order c.args.second)),
         ),
       ),
     )

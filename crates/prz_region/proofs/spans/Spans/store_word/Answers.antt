@@ -7,5 +7,5 @@ use Rattle.prz_region.proofs.spans.Spans.store_word.Goals as goal
 pub store_array-requires : goal.store_array-requires
 store_array-requires c = (
   lit< tt,
-  (c.requires.span, (c.requires.place, subst AreBytes (sym c.to_le_bytes.ensures) (AreBytes-word c.args.w))),
+  (c.requires.span, (c.requires.place, subst AreBytes (sym c.bytes.ensures) (AreBytes-word c.args.order c.args.w))),
 )

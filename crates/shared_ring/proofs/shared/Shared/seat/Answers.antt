@@ -11,7 +11,7 @@ use Rattle.shared_ring.proofs.shared.Shared.seat.Goals as goal
 abbrev after : SharedSeen → Words → ℕ → List ℕ → SharedSeen
 after v w n payload = record {
   region = stored v.region v.place
-      (words_store ((w.start + n) % v.zone.cap) (min v.zone.cap (w.size + n)) ∷ []);
+      (words_store v.zone.byte_order ((w.start + n) % v.zone.cap) (min v.zone.cap (w.size + n)) ∷ []);
   place = v.place;
   zone = v.zone;
   reserved = v.reserved + 1;
@@ -20,7 +20,7 @@ after v w n payload = record {
 
 left : (v : SharedSeen) (payload : List ℕ) (w : Words) (n size : ℕ) (spans : CutRegion) (seats : List Seat)
     → w ≡ words_seen v → n ≡ length payload → size ≡ min v.zone.cap (w.size + n)
-    → spans ≡ stored v.region v.place (words_store ((w.start + n) % v.zone.cap) size ∷ [])
+    → spans ≡ stored v.region v.place (words_store v.zone.byte_order ((w.start + n) % v.zone.cap) size ∷ [])
     → seats ≡ v.seats ++ record { ticket = v.reserved; place = w.start; stored = 0; payload = payload } ∷ []
     → seated v payload
     ≡ record {
@@ -39,7 +39,7 @@ left v payload w n size spans seats e f g r s =
       reserved = v.reserved + 1;
       seats = xs;
     } in u)
-    (ap (λ k. stored v.region v.place (words_store ((w.start + n) % v.zone.cap) k ∷ [])) (sym g) ∙ sym r)
+    (ap (λ k. stored v.region v.place (words_store v.zone.byte_order ((w.start + n) % v.zone.cap) k ∷ [])) (sym g) ∙ sym r)
     (sym s)
 
 pub invariant_of-self : goal.invariant_of-self

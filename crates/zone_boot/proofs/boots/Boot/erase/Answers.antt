@@ -17,7 +17,7 @@ returns-in-Signature-clause-gives c =
     subst (λ (p : Phase). s.made ≤ most_made s.zone s.block s.within p) c.in-Signature.is c.requires.kept.made in
     let l = c.set_word.ensures.len in
     let t = c.requires.valid.at_least in
-    gives s x _ c.set_word.new.self (word_store 0 s.zone.sig) c.set_word.ensures.handed
+    gives s x _ c.set_word.new.self (word_store s.zone.byte_order 0 s.zone.sig) c.set_word.ensures.handed
     (left-in s.zone x s.block s.within s.count s.erasure s.phase Signature c.in-Signature.is
     ∙ left-signature s.zone x s.block s.within s.count s.erasure)
     (λ m. ap length (left-in s.zone x s.block s.within s.count s.erasure s.phase Signature c.in-Signature.is)
@@ -34,7 +34,7 @@ returns-in-Start-clause-gives c =
     subst (λ (p : Phase). s.made ≤ most_made s.zone s.block s.within p) c.in-Start.is c.requires.kept.made in
     let l = c.set_word-in-Start.ensures.len in
     let t = c.requires.valid.at_least in
-    gives s x _ c.set_word-in-Start.new.self (word_store 4 0) c.set_word-in-Start.ensures.handed
+    gives s x _ c.set_word-in-Start.new.self (word_store s.zone.byte_order 4 0) c.set_word-in-Start.ensures.handed
     (left-in s.zone x s.block s.within s.count s.erasure s.phase Start c.in-Start.is
     ∙ left-start s.zone x s.block s.within s.count s.erasure)
     (λ m. ap length (left-in s.zone x s.block s.within s.count s.erasure s.phase Start c.in-Start.is)
@@ -51,7 +51,7 @@ returns-in-Size-clause-gives c =
     subst (λ (p : Phase). s.made ≤ most_made s.zone s.block s.within p) c.in-Size.is c.requires.kept.made in
     let l = c.set_word-in-Size.ensures.len in
     let t = c.requires.valid.at_least in
-    gives s x _ c.set_word-in-Size.new.self (word_store 8 0) c.set_word-in-Size.ensures.handed
+    gives s x _ c.set_word-in-Size.new.self (word_store s.zone.byte_order 8 0) c.set_word-in-Size.ensures.handed
     (left-in s.zone x s.block s.within s.count s.erasure s.phase Size c.in-Size.is
     ∙ left-size s.zone x s.block s.within s.count s.erasure)
     (λ m. ap length (left-in s.zone x s.block s.within s.count s.erasure s.phase Size c.in-Size.is)

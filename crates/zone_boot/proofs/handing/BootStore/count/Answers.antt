@@ -9,4 +9,4 @@ pub returns-in-Bytes : goal.returns-in-Bytes
 returns-in-Bytes c =
     let s = c.args.self.now in
     c.len.ensures.value ∙ sym (length-byte_stores s.place s.bytes.items)
-    ∙ ap (λ (g : Given). length (handed_by g s.place s.word s.bytes.items)) (sym c.in-Bytes.is)
+    ∙ ap (λ (g : Given). length (handed_by g s.byte_order s.place s.word s.bytes.items)) (sym c.in-Bytes.is)

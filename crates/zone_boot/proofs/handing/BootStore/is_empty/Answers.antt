@@ -8,7 +8,7 @@ use Rattle.zone_boot.proofs.handing.BootStore.is_empty.Goals as goal
 pub returns-in-Bytes : goal.returns-in-Bytes
 returns-in-Bytes c =
     let s = c.args.self.now in
-    let is = ap (λ (g : Given). handed_by g s.place s.word s.bytes.items) c.in-Bytes.is in (
+    let is = ap (λ (g : Given). handed_by g s.byte_order s.place s.word s.bytes.items) c.in-Bytes.is in (
       (λ h. is ∙ byte-none s.place s.bytes.items (empty-is s.bytes.items _ c.is_empty.ensures h)),
       (λ h. empty-test s.bytes.items _ c.is_empty.ensures (byte-some s.place s.bytes.items (sym is ∙ h))),
     )
