@@ -17,8 +17,8 @@ _oopsreport()
         *)
             if [[ $word == -* ]]; then
                 mapfile -t COMPREPLY < <(compgen -W "--param --cmdline --cmdline-file --kernel --dtb --node
-                    --mem-as-given --region --log --memory --at --memory-at --symbols --recursive --lines --color --format
-                    --json --html --brief --save --help --version" -- "$word")
+                    --mem-as-given --region --log --memory --at --memory-at --symbols --recursive --lines
+                    --color --format --json --html --brief --save --help --version" -- "$word")
             else
                 mapfile -t COMPREPLY < <(compgen -f -- "$word")
                 compopt -o filenames
