@@ -281,8 +281,8 @@ def report(image, words="", format="json", tree=b"", name="image"):
 
     Words are parameters, as "mem_size=65536 ecc=1". A device tree gives the layout where there is one; without it and
     without mem_size the layout is looked for in the image. The name stands for the file's path. Answers a Report: the
-    text, and as hint the lines on a layout that was looked for, both bytes. Without words and tree an image with a dump of
-    the kernel's pstore_blk is a storage; with words as "pstore_blk.kmsg_size=64" any image is.
+    text, and as hint the lines on a layout that was looked for, both bytes. Without words and tree an image with a dump
+    of the kernel's pstore_blk is a storage; with words as "pstore_blk.kmsg_size=64" any image is.
 
     Raises Error with status 3 if a word is faulty or there is no layout, 4 if the image is too short, 13 if the words
     or the name are no text or the format is none of the three, 17 if the layout was looked for and none is taken, 18 if
@@ -308,11 +308,23 @@ def report(image, words="", format="json", tree=b"", name="image"):
 _KEYS = {"mem_size": ("mem", 0), "record_size": ("dump", 4096), "console_size": ("console", 4096),
          "ftrace_size": ("ftrace", 4096), "pmsg_size": ("pmsg", 4096), "ecc": ("ecc", 0), "cpus": ("cpus", 1),
          "block_size": ("block", 128), "ecc_dump": ("ecc_dump", None), "ecc_console": ("ecc_console", None),
-         "ecc_ftrace": ("ecc_ftrace", None), "ecc_pmsg": ("ecc_pmsg", None), "ftrace_sig": ("ftrace_sig", 0)}
+         "ecc_ftrace": ("ecc_ftrace", None), "ecc_pmsg": ("ecc_pmsg", None), "ftrace_sig": ("ftrace_sig", 0),
+         "order": ("order", 0), "byte_order": ("byte_order", 0)}
+# The texts that a key takes in place of a number; the field has the text's place.
+_CHOICES = {"order": ("console,ftrace,pmsg", "console,pmsg,ftrace"), "byte_order": ("little", "big")}
 _FTRACE = 2
 _WORD, _PAYLOAD = 0, 2
 _ROWS = 256
 _MOST_MEMORY = 1 << 24
+
+
+def _place_of(key, value):
+    """The number of a key's value: of a text that the key takes, its place among these."""
+    if key not in _CHOICES:
+        return value
+    if value not in _CHOICES[key]:
+        raise ValueError("%s is one of: %s" % (key, " ".join(_CHOICES[key])))
+    return _CHOICES[key].index(value)
 
 
 def _numbers(values):
@@ -322,7 +334,7 @@ def _numbers(values):
     params = _Params()
     for key, (field, absent) in _KEYS.items():
         absent = values.get("ecc", 0) if absent is None else absent
-        setattr(params, field, values.get(key, absent))
+        setattr(params, field, _place_of(key, values[key]) if key in values else absent)
     # as the words are read: ecc=1 is 16 parity bytes, and mem_size is rounded down to a power of two
     for field in ("ecc", "ecc_dump", "ecc_console", "ecc_ftrace", "ecc_pmsg"):
         if getattr(params, field) == 1:
@@ -375,9 +387,9 @@ class Ring:
         """Opens the zone of this kind and number in a file, and makes the file if it is not there.
 
         Parameters are numbers by keyword, as mem_size=65536, ecc=1, or a text of words, as "mem_size=65536 ecc=1"; what
-        is absent is as on the program's command line. A zone that is no log is signed and erased. A log that is there
-        is kept, its damage corrected. A boot of Linux does otherwise: it shows a console or a pmsg log once, in pstore,
-        and erases it. With keep=False the zone is booted like that.
+        is absent is as on the program's command line. `order` and `byte_order` are texts in both. A zone that is no log
+        is signed and erased. A log that is there is kept, its damage corrected. A boot of Linux does otherwise: it shows
+        a console or a pmsg log once, in pstore, and erases it. With keep=False the zone is booted like that.
 
         Raises Error if there is no such zone or no layout.
         """

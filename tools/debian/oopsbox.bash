@@ -3,7 +3,7 @@ _oopsbox()
 {
     local word=${COMP_WORDS[COMP_CWORD]}
     local keys="mem_size= record_size= console_size= ftrace_size= pmsg_size= ecc= cpus= ftrace_sig= block_size=
-        ecc_dump= ecc_console= ecc_ftrace= ecc_pmsg="
+        ecc_dump= ecc_console= ecc_ftrace= ecc_pmsg= order= byte_order="
     if [ "$COMP_CWORD" -eq 1 ]; then
         mapfile -t COMPREPLY < <(compgen -f -- "$word")
         compopt -o filenames

@@ -3,7 +3,7 @@ _oopsreport()
 {
     local word=${COMP_WORDS[COMP_CWORD]}
     local keys="mem_size= record_size= console_size= ftrace_size= pmsg_size= ecc= cpus= ftrace_sig= block_size=
-        ecc_dump= ecc_console= ecc_ftrace= ecc_pmsg="
+        ecc_dump= ecc_console= ecc_ftrace= ecc_pmsg= order= byte_order="
     case ${COMP_WORDS[COMP_CWORD - 1]} in
         --param)
             mapfile -t COMPREPLY < <(compgen -W "$keys" -- "$word")
@@ -16,8 +16,9 @@ _oopsreport()
             compopt -o filenames ;;
         *)
             if [[ $word == -* ]]; then
-                mapfile -t COMPREPLY < <(compgen -W "--param --cmdline --cmdline-file --kernel --dtb --node --mem-as-given --region --memory --at --memory-at
-                    --symbols --recursive --lines --color --format --json --html --brief --save --help --version" -- "$word")
+                mapfile -t COMPREPLY < <(compgen -W "--param --cmdline --cmdline-file --kernel --dtb --node
+                    --mem-as-given --region --log --memory --at --memory-at --symbols --recursive --lines
+                    --color --format --json --html --brief --save --help --version" -- "$word")
             else
                 mapfile -t COMPREPLY < <(compgen -f -- "$word")
                 compopt -o filenames

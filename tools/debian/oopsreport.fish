@@ -1,6 +1,6 @@
 # Completion of oopsreport for fish: its options and what they take, and files.
 set -l keys mem_size= record_size= console_size= ftrace_size= pmsg_size= ecc= cpus= ftrace_sig= block_size= \
-    ecc_dump= ecc_console= ecc_ftrace= ecc_pmsg=
+    ecc_dump= ecc_console= ecc_ftrace= ecc_pmsg= order= byte_order=
 
 complete -c oopsreport -l param -x -a "$keys" -d "A parameter of the layout"
 complete -c oopsreport -l cmdline -x -d "A kernel's command line"
@@ -10,6 +10,7 @@ complete -c oopsreport -l dtb -r -F -d "A board's flattened device tree"
 complete -c oopsreport -l node -x -d "The ramoops node of the device tree"
 complete -c oopsreport -l mem-as-given -d "Do not round mem_size down to a power of two"
 complete -c oopsreport -l region -d "Take each image as a region, also a text log"
+complete -c oopsreport -l log -d "Take each image as a text log"
 complete -c oopsreport -l memory -d "Each image is a copy of all memory"
 complete -c oopsreport -l at -x -d "The region at this place of the memory"
 complete -c oopsreport -l memory-at -x -d "The physical address of the memory's first byte"

@@ -1,7 +1,7 @@
 #compdef oopsreport
 # Completion of oopsreport for zsh: its options and what they take, and files.
 local -a keys=(mem_size= record_size= console_size= ftrace_size= pmsg_size= ecc= cpus= ftrace_sig= block_size=
-    ecc_dump= ecc_console= ecc_ftrace= ecc_pmsg=)
+    ecc_dump= ecc_console= ecc_ftrace= ecc_pmsg= order= byte_order=)
 _arguments \
     "*--param[a parameter of the layout]:parameter:compadd -S '' $keys" \
     '--cmdline[a command line of a kernel]:words:' \
@@ -11,6 +11,7 @@ _arguments \
     '--node[the ramoops node of the device tree]:path:' \
     '--mem-as-given[do not round mem_size down to a power of two]' \
     '--region[take each image as a region, also a text log]' \
+    '--log[take each image as a text log]' \
     '--memory[each image is a copy of all memory]' \
     '--at[the region at this place of the memory]:place:' \
     '--memory-at[the physical address of the first byte of the memory]:address:' \
