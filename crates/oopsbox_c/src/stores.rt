@@ -9,8 +9,8 @@ use store_steps::{Given, Store};
 use zone_boot::BootStore;
 
 /// A word, or bytes that are stored one by one, rising, from `place` on. `what` is 0 for a word: the first four of
-/// `bytes`, which are those of `word`, the lowest first, at once; 1 for `len` bytes of the line and 2 for `len` bytes of the payload,
-/// those from `from` on; and 3 for the first `len` of `bytes`. A place is counted from the zone's begin.
+/// `bytes`, which are those of `word`, the lowest first, at once; 1 for `len` bytes of the line and 2 for `len` bytes of
+/// the payload, those from `from` on; and 3 for the first `len` of `bytes`. A place is counted from the zone's begin.
 #[repr(C)]
 #[derive(Clone, Copy)]
 pub struct StoreRow {
@@ -49,7 +49,8 @@ impl StoreRow {
         match store.given {
             Given::Word => {
                 self.what = 0;
-                self.bytes[..4].copy_from_slice(&self.word.to_le_bytes());
+                let word = self.word.to_le_bytes();
+                self.bytes[..4].copy_from_slice(&word);
             }
             Given::Line => self.what = 1,
             Given::Payload => self.what = 2,
@@ -82,7 +83,8 @@ impl StoreRow {
             zone_boot::Given::Word => {
                 self.what = 0;
                 self.len = 4;
-                self.bytes[..4].copy_from_slice(&self.word.to_le_bytes());
+                let word = self.word.to_le_bytes();
+                self.bytes[..4].copy_from_slice(&word);
             }
             zone_boot::Given::Bytes => {
                 let bytes = store.bytes.as_slice();
