@@ -5,6 +5,7 @@ mod BestLines
 mod BootSteps
 mod FoundRegions
 mod LogEnds
+mod Looks
 mod NamedRegions
 mod PackedEnds
 mod RegionSteps
