@@ -20,9 +20,9 @@ use Rattle.report_run.specs.Plans.{dressed, map_of}
 
 -- a text that stands at this place of its file, and its boots, the last one first
 pub record IsTextHeld (text : List ℕ) (base : ℕ) (l : HeldLog) : Type 0 where
-  pub text : l.text.items ≡ text
-  pub base : l.base ≡ base
-  pub boots : l.boots.items ≡ reverse (boots_of text)
+  pub is_text : l.text.items ≡ text
+  pub is_base : l.base ≡ base
+  pub are_boots : l.boots.items ≡ reverse (boots_of text)
 
 -- what a boot wrote
 abbrev pub part_of : List ℕ → Boot → List ℕ
