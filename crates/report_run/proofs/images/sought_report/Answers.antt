@@ -21,7 +21,8 @@ returns-in_err-report-clause-reported g c =
     c.sought_plan.new.messages.is_lost)
     c.in_ok-told.ensures.looked c.in_ok-told.ensures.same _ _ _ _ _ (g.M.Load.faults c.sought_plan.new.image) _ _
     c.in_ok-told.ensures.later c.in_err-report.ensures.reported in
-    let p = err_from_is_err_and c.from_residual-in_err-report.result c.from_residual-in_err-report.ensures.1 in
+    let p = err_from_is_err_and c.from_residual-in_err-report.result
+    c.from_residual-in_err-report.ensures.1 in
     rw (p.1, p.2) h
 
 pub returns-in_err-tell_layout-clause-reported : goal.returns-in_err-tell_layout-clause-reported
@@ -45,7 +46,8 @@ returns-in_err-tell_layout-clause-reported g c =
     (seen (g.E.Sink.given c.tell_layout.new.messages.errors) (g.E.Sink.faults c.tell_layout.new.messages.errors)
     c.tell_layout.new.messages.is_lost)
     _ _ c.in_err-tell_layout.field-0.0 c.in_err-tell_layout.ensures in
-    let p = err_from_is_err_and c.from_residual-in_err-tell_layout.result c.from_residual-in_err-tell_layout.ensures.1 in
+    let p = err_from_is_err_and c.from_residual-in_err-tell_layout.result
+    c.from_residual-in_err-tell_layout.ensures.1 in
     rw (p.1, p.2) h
 
 pub returns-clause-reported : goal.returns-clause-reported
