@@ -1,11 +1,13 @@
 -- Messages on the best layout, reports behind the lines on a layout, files and regions one after another, regions under
--- their names, and those that are found. `tell_failure`, `report_part`, `sought_report`, `report_path`, `run`, `report_regions`,
--- `report_named`, `report_given` and `regions_found` cite them.
+-- their names, those that are found, and looks for a layout. `tell_failure`, `report_part`, `layout_in`, `found_plan`,
+-- `sought_report`, `report_path`, `run`, `report_regions`, `report_named`, `report_given` and `regions_found` cite
+-- them.
 mod BestLines
 mod BootSteps
 mod FoundRegions
 mod LogEnds
 mod LogReports
+mod Looks
 mod NamedRegions
 mod PackedEnds
 mod RegionSteps

@@ -208,8 +208,8 @@ fn found_plan<M: Load, E: Sink>(
     }
 }
 
-/// The plan of the layout that the image shows, with the lines and the functions that are asked for. A search that takes
-/// long is told on standard error, once.
+/// The plan of the layout that the image shows, with the lines and the functions that are asked for. A search that
+/// takes long is told on standard error, once.
 pub fn sought_plan<M: Load, E: Sink>(
     alloc: Global,
     asked: &Asked,
