@@ -20,6 +20,7 @@ use Rattle.zone_spec.specs.declared.Words.{Words}
 use Rattle.zone_spec.specs.declared.Zone.{Zone}
 use Rattle.zone_spec.specs.declared.ZoneName.{ZoneName}
 use Rattle.zone_spec.specs.declared.params.Params.{Params}
+use Rattle.zone_spec.specs.Orders.{order_text, byte_order_text}
 use Rattle.zone_spec.specs.Reading.{ZoneReading}
 use Rattle.zone_spec.specs.Records.{Saved}
 use Rattle.prz_read.specs.Saving.{saved}
@@ -60,9 +61,10 @@ use Rattle.region_report.specs.Warned.{warnings_by}
 abbrev pub count : ℕ → Data
 count n = number (unsigned n)
 
-abbrev pub parameters_data : Params → Data
-parameters_data p = object (
+abbrev pub parameters_with : Data → Data → Params → Data
+parameters_with byte_order order p = object (
     member (codes "block_size") (count p.block) (
+    member (codes "byte_order") byte_order (
     member (codes "console_size") (count p.console) (
     member (codes "cpus") (count p.cpus) (
     member (codes "ecc") (count p.ecc) (
@@ -73,8 +75,12 @@ parameters_data p = object (
     member (codes "ftrace_sig") (count p.ftrace_sig) (
     member (codes "ftrace_size") (count p.ftrace) (
     member (codes "mem_size") (count p.mem) (
+    member (codes "order") order (
     member (codes "pmsg_size") (count p.pmsg) (
-    member (codes "record_size") (count p.dump) no_members)))))))))))))
+    member (codes "record_size") (count p.dump) no_members)))))))))))))))
+
+abbrev pub parameters_data : Params → Data
+parameters_data p = parameters_with (string (byte_order_text p.byte_order)) (string (order_text p.order)) p
 
 -- in bytes
 abbrev pub sizes_data : Sizes → Data

@@ -110,16 +110,16 @@ fn death_with(
     let task = named_value(alloc, text, death.task)?;
     let uptime = bytes_value(alloc, uptime(text, death.telling))?;
     json!(in alloc; {
-        "cpu": cpu,
-        "function": function,
-        "is_next": death.is_next,
-        "kernel": kernel,
-        "line": line,
-        "record": record_name,
-        "second": second,
-        "task": task,
+        "uptime": uptime,
         "trace": trace,
-        "uptime": uptime
+        "task": task,
+        "second": second,
+        "record": record_name,
+        "line": line,
+        "kernel": kernel,
+        "is_next": death.is_next,
+        "function": function,
+        "cpu": cpu
     })
 }
 

@@ -61,17 +61,17 @@ fn line_value(
         (view zones)) }
 {
     json!(in alloc; {
-        "better": better,
-        "death": answer.death,
-        "end": answer.end,
-        "machine": answer.machine,
-        "parameters": parameters,
-        "path": path,
-        "records": records,
-        "schema": SCHEMA,
-        "signature": answer.signature,
+        "zones": zones,
         "warnings": answer.warnings,
-        "zones": zones
+        "signature": answer.signature,
+        "schema": SCHEMA,
+        "records": records,
+        "path": path,
+        "parameters": parameters,
+        "machine": answer.machine,
+        "end": answer.end,
+        "death": answer.death,
+        "better": better
     })
 }
 

@@ -67,15 +67,15 @@ fn entry_value(alloc: Global, entry: &Entry, payload: &[u8]) -> Result<Value, Al
     let tag = Value::try_from_str(alloc, utf8_front(message.tag))?;
     let text = Value::try_from_str(alloc, utf8_front(message.text))?;
     json!(in alloc; {
-        "log": entry.log,
-        "nanoseconds": entry.nanos,
-        "pid": entry.pid,
-        "priority": priority,
-        "seconds": entry.secs,
-        "tag": tag,
-        "text": text,
+        "uid": entry.uid,
         "tid": entry.tid,
-        "uid": entry.uid
+        "text": text,
+        "tag": tag,
+        "seconds": entry.secs,
+        "priority": priority,
+        "pid": entry.pid,
+        "nanoseconds": entry.nanos,
+        "log": entry.log
     })
 }
 
@@ -125,16 +125,16 @@ fn record_of(
     let mut shown = ArrayString::new();
     file_name(origin, name, &mut shown);
     json!(in alloc; {
-        "bad": members.counts.bad,
-        "base64": members.base64,
-        "compressed": members.compressed,
-        "corrected": members.counts.corrected,
-        "entries": members.entries,
-        "fault": members.fault,
-        "name": shown.as_str(),
-        "taken": members.taken,
+        "time": members.time,
         "text": members.text,
-        "time": members.time
+        "taken": members.taken,
+        "name": shown.as_str(),
+        "fault": members.fault,
+        "entries": members.entries,
+        "corrected": members.counts.corrected,
+        "compressed": members.compressed,
+        "base64": members.base64,
+        "bad": members.counts.bad
     })
 }
 

@@ -2,7 +2,7 @@
 ghost use Rattle.std.specs.Prelude.{◌≡◌, ◌<◌, ◌++◌, length, map, replicate, Some, None, IfOk, OnOk};
 ghost use Rattle.serde_json.specs.Data.{array, null};
 ghost use Rattle.serde_json.specs.View.{view, items_of};
-ghost use Rattle.report_json.specs.Schema.{count, parameters_data, sizes_data, division_data, part_data, blocks_data};
+ghost use Rattle.report_json.specs.Schema.{count, parameters_with, parameters_data, sizes_data, division_data, part_data, blocks_data};
 ghost use Rattle.report_json.specs.Schema.{words_data, layout_data};
 ghost use Rattle.report_json.specs.Schema.{zone_with, zone_data, kind_text, state_text, IsZoneAt, AreZones};
 
@@ -13,25 +13,41 @@ use serde_json::{Value, json};
 use std::alloc::{AllocError, Global};
 use zone_spec::{Kind, Params, State, Words, Zone, ZoneName};
 
-/// The parameters as they were given, but for the two orders: the places of the zones show theirs.
+// The parameters, with the values of the two orders.
+fn parameters_with(
+    alloc: Global,
+    p: &Params,
+    byte_order: Value,
+    order: Value,
+) -> Result<Value, AllocError>
+    ensures { IfOk result (λ v. view v ≡ parameters_with (view byte_order) (view order) p.now) }
+{
+    json!(in alloc; {
+        "record_size": p.dump,
+        "pmsg_size": p.pmsg,
+        "order": order,
+        "mem_size": p.mem,
+        "ftrace_size": p.ftrace,
+        "ftrace_sig": p.ftrace_sig,
+        "ecc_pmsg": p.ecc_pmsg,
+        "ecc_ftrace": p.ecc_ftrace,
+        "ecc_dump": p.ecc_dump,
+        "ecc_console": p.ecc_console,
+        "ecc": p.ecc,
+        "cpus": p.cpus,
+        "console_size": p.console,
+        "byte_order": byte_order,
+        "block_size": p.block
+    })
+}
+
+/// The parameters as they were given.
 fn parameters_value(alloc: Global, p: &Params) -> Result<Value, AllocError>
     ensures { IfOk result (λ v. view v ≡ parameters_data p.now) }
 {
-    json!(in alloc; {
-        "block_size": p.block,
-        "console_size": p.console,
-        "cpus": p.cpus,
-        "ecc": p.ecc,
-        "ecc_console": p.ecc_console,
-        "ecc_dump": p.ecc_dump,
-        "ecc_ftrace": p.ecc_ftrace,
-        "ecc_pmsg": p.ecc_pmsg,
-        "ftrace_sig": p.ftrace_sig,
-        "ftrace_size": p.ftrace,
-        "mem_size": p.mem,
-        "pmsg_size": p.pmsg,
-        "record_size": p.dump
-    })
+    let byte_order = Value::try_from_str(alloc, p.byte_order.text())?;
+    let order = Value::try_from_str(alloc, p.order.text())?;
+    parameters_with(alloc, p, byte_order, order)
 }
 
 fn sizes_value(alloc: Global, s: &Sizes) -> Result<Value, AllocError>
@@ -148,15 +164,15 @@ fn zone_with(
 {
     let words = words_value(alloc, reading.words)?;
     json!(in alloc; {
-        "bad": reading.bad,
-        "blocks": blocks,
-        "corrected": reading.corrected,
-        "header": header,
-        "index": name.index,
-        "kind": kind_text(name.kind),
-        "layout": layout,
+        "words": words,
         "state": state_text(reading.state),
-        "words": words
+        "layout": layout,
+        "kind": kind_text(name.kind),
+        "index": name.index,
+        "header": header,
+        "corrected": reading.corrected,
+        "blocks": blocks,
+        "bad": reading.bad
     })
 }
 
