@@ -194,13 +194,13 @@ fn told(words: &[String], fault: ParamFault, faults: [&'static str; 2]) -> anyho
 
 /// What is wrong with a device tree, by the fault's number less one.
 const TREE_FAULTS: [&str; 16] = [
-    "it is no flattened device tree",
+    "it is not a flattened device tree",
     "its version is not 17, nor one that reads as 17",
     "a block lies outside it",
     "its structure breaks off",
     "its structure has an unknown token",
     "a name has no end",
-    "a property stands outside a node, or behind a child",
+    "a property stands outside a node, or after a child",
     "a node ends that did not begin",
     "its nodes are more than 64 deep",
     "it has no root, or two",

@@ -22,7 +22,7 @@ lacking dump =
 abbrev pub bad_headers : ℕ → List Part
 bad_headers count =
     Words OPENING.now ∷ Words (codes "Bad headers: ") ∷ Count count
-    ∷ Words (codes ". A log that is lost there can be newer than what stands below.") ∷ Words CLOSING.now ∷ []
+    ∷ Words (codes ". A log lost there may be newer than what stands below.") ∷ Words CLOSING.now ∷ []
 
 abbrev pub warning_parts : Warning → List Part
 warning_parts (ConsoleTells dump) = lacking dump

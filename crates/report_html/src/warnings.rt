@@ -45,7 +45,7 @@ fn add_bad_headers(pieces: &mut Vec<Piece<'_>>, count: u64) -> Result<(), AllocE
             Piece::Own(OPENING),
             Piece::Own("Bad headers: "),
             Piece::Number(count),
-            Piece::Own(". A log that is lost there can be newer than what stands below."),
+            Piece::Own(". A log lost there may be newer than what stands below."),
             Piece::Own(CLOSING),
         ],
     )

@@ -113,7 +113,7 @@ IsMessage path (Unsaved why) a b = AreTold (line_of path (string_bytes why)) a b
 IsMessage path NotThere a b =
     AreTold (line_of path (codes "no layout explains what stands at that place; give it by --param")) a b
 IsMessage path NoRegion a b =
-    AreTold (line_of path (codes "no region was found; --memory looks for ramoops regions alone")) a b
+    AreTold (line_of path (codes "no region was found; --memory only looks for ramoops regions")) a b
 IsMessage path (Several places) a b = AreTold (several_line path (string_bytes places)) a b
 IsMessage path NoPlace a b = AreTold (line_of path (codes "no place is named")) a b
 IsMessage path (Beyond has size place) a b = AreTold (beyond_line path has size place) a b

@@ -242,7 +242,7 @@ impl<E: Sink> Messages<E> {
             Failure::NoRegion => {
                 self.tell_line(
                     path,
-                    "no region was found; --memory looks for ramoops regions alone",
+                    "no region was found; --memory only looks for ramoops regions",
                 );
             }
             Failure::Several(places) => self.tell_several(path, places),

@@ -632,7 +632,7 @@ fn warnings_of_bad_parts(rt: HostRuntime) -> Result<(), Fail> {
     let warned = "<pre class=\"why\">Kernel panic - not syncing: a</pre>
 <p class=\"warn\"><b>Read with care.</b> The record that tells it has bad parts: its lines can be wrong.</p>
 <p class=\"warn\"><b>Read with care.</b> Bad headers: 1. \
-A log that is lost there can be newer than what stands below.</p>
+A log lost there may be newer than what stands below.</p>
 <p class=\"warn\"><b>Read with care.</b> More than half of the zones have bad parts. \
 The place or the parameters can be other than the kernel's.</p>
 <table class=\"fact\">\n";

@@ -193,7 +193,7 @@ fn refusals_of_a_memory(rt: HostRuntime) -> Result<(), Fail> {
             Format::Text,
             WHOLE,
             [].as_slice(),
-            "oopsreport: file: no region was found; --memory looks for ramoops regions alone\n",
+            "oopsreport: file: no region was found; --memory only looks for ramoops regions\n",
         ),
         (
             Format::Text,

@@ -280,7 +280,7 @@ zones 4, records 1
             [NONE, NONE, NONE, NONE],
             "no death: no record tells of the kernel
   image      a
-  careful    no zone has a log: blank, or another place or other parameters
+  careful    no zone has a log: the region is blank, or the place or the parameters are wrong
 
 zones 4, records 0
 ",
@@ -317,8 +317,8 @@ fn warnings_of_bad_parts(rt: HostRuntime) -> Result<(), Fail> {
     let text = text_on(rt.alloc(), b"a", &console(16), bytes)?;
     let warned = "  image      a
   careful    bad parts in the record that tells: 2; its lines can be wrong
-  careful    bad headers: 1; a log that is lost there can be newer
-  careful    zones with bad parts: 1; the place or the parameters can be others
+  careful    bad headers: 1; a log lost there may be newer
+  careful    zones with bad parts: 1; the place or the parameters may be wrong
 ";
     assert!(rt; has(text.as_slice(), warned)?);
     Ok(())

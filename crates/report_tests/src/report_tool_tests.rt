@@ -147,7 +147,7 @@ fn words_that_are_wrong(rt: HostRuntime) -> Result<(), Fail> {
     for (format, piece) in [
         (
             Format::Text,
-            "by these words alone: record_size=0 console_size=4096 ftrace_size=0 pmsg_size=0 ecc=0\n",
+            "give only these words: record_size=0 console_size=4096 ftrace_size=0 pmsg_size=0 ecc=0\n",
         ),
         (
             Format::Json,

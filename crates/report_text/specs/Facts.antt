@@ -156,19 +156,19 @@ warning_parts (BadTeller bad) =
     counted_warning (codes "  careful    bad parts in the record that tells: ") bad
     (codes "; its lines can be wrong\n")
 warning_parts (BadHeaders count) =
-    counted_warning (codes "  careful    bad headers: ") count (codes "; a log that is lost there can be newer\n")
+    counted_warning (codes "  careful    bad headers: ") count (codes "; a log lost there may be newer\n")
 warning_parts NoLog =
-    plain_warning (codes "  careful    no zone has a log: blank, or another place or other parameters\n")
+    plain_warning (codes "  careful    no zone has a log: the region is blank, or the place or the parameters are wrong\n")
 warning_parts (ManyBad bad) =
     counted_warning (codes "  careful    zones with bad parts: ") bad
-    (codes "; the place or the parameters can be others\n")
+    (codes "; the place or the parameters may be wrong\n")
 
 abbrev pub warnings_parts : List Warning → List Part
 warnings_parts warnings = flat_map warning_parts warnings
 
 -- the words of a layout that explains the image better, if there are any
 abbrev pub better_parts : List ℕ → List Part
-better_parts words = bytes_fact (codes "  careful    another layout explains it better, by these words alone: ") words
+better_parts words = bytes_fact (codes "  careful    another layout explains it better; give only these words: ") words
 
 -- ---- one line
 

@@ -60,17 +60,17 @@ fn add_warning(pieces: &mut Vec<Piece<'_>>, warning: Warning) -> Result<(), Allo
             pieces,
             "  careful    bad headers: ",
             count,
-            "; a log that is lost there can be newer\n",
+            "; a log lost there may be newer\n",
         ),
         Warning::NoLog => add_plain(
             pieces,
-            "  careful    no zone has a log: blank, or another place or other parameters\n",
+            "  careful    no zone has a log: the region is blank, or the place or the parameters are wrong\n",
         ),
         Warning::ManyBad(bad) => add_counted(
             pieces,
             "  careful    zones with bad parts: ",
             bad,
-            "; the place or the parameters can be others\n",
+            "; the place or the parameters may be wrong\n",
         ),
     }
 }
@@ -91,7 +91,7 @@ pub fn add_better<'a>(pieces: &mut Vec<Piece<'a>>, better: &'a [u8]) -> Result<(
 {
     add_bytes(
         pieces,
-        "  careful    another layout explains it better, by these words alone: ",
+        "  careful    another layout explains it better; give only these words: ",
         better,
     )
 }

@@ -32,7 +32,7 @@ NotTiedRow = tied_line false ≡ []
 
 abbrev pub OopsesRow : Type 0
 OopsesRow = oopses_line true
-    ≡ codes "  no dump is of a panic, and a block device stores none: the newest need not be the death\n"
+    ≡ codes "  no dump is from a panic, and a block device stores none: the newest may not be the death\n"
 
 abbrev pub FaultRow : Type 0
 FaultRow = fault_line (zone Dump 3 0 56) (Some ShortDump)

@@ -58,7 +58,7 @@ has_panic machine image zones = list_any (is_panic machine image) zones
 -- a panic is written by a driver for flash alone
 abbrev pub oopses_line : Bool → List ℕ
 oopses_line alone =
-    if alone then codes "  no dump is of a panic, and a block device stores none: the newest need not be the death" ++ 10 ∷ []
+    if alone then codes "  no dump is from a panic, and a block device stores none: the newest may not be the death" ++ 10 ∷ []
     else []
 
 -- ---- zones at which the kernel's own listing fails

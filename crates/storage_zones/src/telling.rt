@@ -86,7 +86,7 @@ fn oopses_line(alone: bool) -> &'static str
     ensures { result.now ≡ oopses_by alone }
 {
     if alone {
-        "  no dump is of a panic, and a block device stores none: the newest need not be the death\n"
+        "  no dump is from a panic, and a block device stores none: the newest may not be the death\n"
     } else {
         ""
     }
