@@ -20,8 +20,8 @@ fn line_of_console(alloc: Global, text: &[u8]) -> Result<String, Fail> {
 fn record_as_text_and_in_base64(rt: HostRuntime) -> Result<(), Fail> {
     let line = line_of_console(rt.alloc(), b"abc")?;
     let front =
-        "{\"better\":null,\"death\":null,\"end\":{\"ending\":\"broken_off\",\"line\":\"abc\",\"reason\":null,\"record\":\"console-ramoops-0\"},\"machine\":{\"cmdline\":null,\"hardware\":null,\"modules\":null,\"version\":null},\"parameters\":{\"block_size\":128,\"console_size\":4096,\"cpus\":1,\"ecc\":0,\"ecc_console\":0,\
-\"ecc_dump\":0,\"ecc_ftrace\":0,\"ecc_pmsg\":0,\"ftrace_sig\":0,\"ftrace_size\":0,\"mem_size\":4096,\"pmsg_size\":0,\
+        "{\"better\":null,\"death\":null,\"end\":{\"ending\":\"broken_off\",\"line\":\"abc\",\"reason\":null,\"record\":\"console-ramoops-0\"},\"machine\":{\"cmdline\":null,\"hardware\":null,\"modules\":null,\"version\":null},\"parameters\":{\"block_size\":128,\"byte_order\":\"little\",\"console_size\":4096,\"cpus\":1,\"ecc\":0,\"ecc_console\":0,\
+\"ecc_dump\":0,\"ecc_ftrace\":0,\"ecc_pmsg\":0,\"ftrace_sig\":0,\"ftrace_size\":0,\"mem_size\":4096,\"order\":\"console,ftrace,pmsg\",\"pmsg_size\":0,\
 \"record_size\":0},\"path\":\"a\\\"b\",\"records\":[{\"bad\":0,\"base64\":null,\"compressed\":false,\
 \"corrected\":0,\"entries\":null,\"fault\":null,\"name\":\"console-ramoops-0\",\"taken\":null,\"text\":\"abc\",\"time\":null}],\"schema\":2,\"signature\":null,\"warnings\":[],\"zones\":[{\"bad\":0,\"blocks\":[0,null";
     assert!(rt; line.as_str().starts_with(front));
