@@ -54,7 +54,7 @@ static void codes(void)
 
 static void layouts(void)
 {
-	struct oopsbox_zone_place places[2] = {{7, 7, 7, 7, 7, 7, 7, 7, 7}, {7, 7, 7, 7, 7, 7, 7, 7, 7}};
+	struct oopsbox_zone_place places[2] = {{7, 7, 7, 7, 7, 7, 7, 7, 7, 7}, {7, 7, 7, 7, 7, 7, 7, 7, 7, 7}};
 	struct oopsbox_layout_answer answer = {7, 7, 7, 7};
 	size_t length = strlen(params);
 	WANT(oopsbox_layout(NULL, 0, places, 2, &answer) == OOPSBOX_FAULT && answer.fault == 1 && answer.word == 1);

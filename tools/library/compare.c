@@ -14,17 +14,18 @@ static const struct {
 	struct oopsbox_params params;
 } shapes[SHAPES] = {
 	{"mem_size=65536 record_size=8192 console_size=16384 ftrace_size=4096 pmsg_size=8192",
-	 {MEM, 8192, 16384, 4096, 8192, 0, 1, 128, 0, 0, 0, 0, 0, 0}},
+	 {MEM, 8192, 16384, 4096, 8192, 0, 1, 128, 0, 0, 0, 0, 0, 0, 0}},
 	{"mem_size=65536 record_size=8192 console_size=16384 ftrace_size=8192 pmsg_size=8192 ecc=1 cpus=2 "
-	 "ftrace_sig=393664", {MEM, 8192, 16384, 8192, 8192, 16, 2, 128, 16, 16, 16, 16, 393664, 0}},
-	{"mem_size=65536 record_size=4096 console_size=8192 ftrace_size=0 pmsg_size=4096 ecc=7",
-	 {MEM, 4096, 8192, 0, 4096, 7, 1, 128, 7, 7, 7, 7, 0, 0}},
+	 "ftrace_sig=393664 order=console,pmsg,ftrace byte_order=big",
+	 {MEM, 8192, 16384, 8192, 8192, 16, 2, 128, 16, 16, 16, 16, 393664, 1, 1}},
+	{"mem_size=65536 record_size=4096 console_size=8192 ftrace_size=0 pmsg_size=4096 ecc=7 byte_order=big",
+	 {MEM, 4096, 8192, 0, 4096, 7, 1, 128, 7, 7, 7, 7, 0, 0, 1}},
 	{"mem_size=65536 record_size=16384 console_size=16384 ftrace_size=12288 pmsg_size=4096 ecc=100 cpus=3",
-	 {MEM, 16384, 16384, 12288, 4096, 100, 3, 128, 100, 100, 100, 100, 0, 0}},
+	 {MEM, 16384, 16384, 12288, 4096, 100, 3, 128, 100, 100, 100, 100, 0, 0, 0}},
 	{"mem_size=65536 record_size=1024 console_size=2048 ftrace_size=1024 pmsg_size=1024 ecc=16 ecc_dump=0 ecc_console=5 "
-	 "ecc_pmsg=127 block_size=32", {MEM, 1024, 2048, 1024, 1024, 16, 1, 32, 0, 5, 16, 127, 0, 0}},
+	 "ecc_pmsg=127 block_size=32", {MEM, 1024, 2048, 1024, 1024, 16, 1, 32, 0, 5, 16, 127, 0, 0, 0}},
 	{"mem_size=65536 record_size=0 console_size=32768 ftrace_size=16384 pmsg_size=16384 ecc=32 ecc_pmsg=0 cpus=5 "
-	 "block_size=64", {MEM, 0, 32768, 16384, 16384, 32, 5, 64, 32, 32, 32, 0, 0, 0}}};
+	 "block_size=64", {MEM, 0, 32768, 16384, 16384, 32, 5, 64, 32, 32, 32, 0, 0, 0, 0}}};
 
 static uint8_t image[MEM], by_run[MEM], by_calls[MEM], scratch[MEM], log_a[MEM], log_b[MEM];
 static uint8_t text[1 << 20], payload[20000];
