@@ -547,7 +547,7 @@ static void one_kill(void)
 static void begin(const struct shape *of)
 {
 	struct oopsbox_params params = {of->mem, 0, of->console, 0, of->pmsg, of->ecc_console, 1, of->block, 0,
-					of->ecc_console, 0, of->ecc_pmsg, 0, 0};
+					of->ecc_console, 0, of->ecc_pmsg, 0, 0, 0};
 	static const int none[ZONES];
 	shape = of;
 	snprintf(words, sizeof(words), "mem_size=%u record_size=0 console_size=%u ftrace_size=0 pmsg_size=%u ecc=%u "
