@@ -71,7 +71,7 @@ fn a_storage_is_reported(rt: HostRuntime) -> Result<(), Fail> {
         &mut answer,
     );
     assert!(rt; status == 0);
-    assert!(rt; answer.hint == 190);
+    assert!(rt; answer.hint == 191);
     assert!(rt;
         text.starts_with(
             b"here: 8192 bytes; a storage of pstore_zone: kmsg_size=4096 console_size=0 ".as_slice()
