@@ -1,6 +1,6 @@
 -- The first word that begins with a version: a byte further, and that a version is a text. For `release.rt`.
-use Rattle.std.proofs.Common.{◌≡◌, ℕ, ◌+◌, ◌<◌, ◌≤◌, ◌==◌, Bool, true, false, not, cond, List, [], ◌∷◌, length, drop, get_or, Option}
-use Rattle.std.proofs.Common.{Some, None, unwrap_or, nat_lt, refl, sym, ap, subst, arith, ◌∙◌, All, IsUtf8}
+use Rattle.std.proofs.Common.{◌≡◌, ℕ, ◌+◌, ◌<◌, ◌≤◌, ◌==◌, Bool, true, false, not, cond, List, [], ◌∷◌, length, drop, get_or}
+use Rattle.std.proofs.Common.{Some, None, unwrap_or, nat_lt, refl, sym, ap, subst, arith, All, IsUtf8}
 use Rattle.std.specs.List.{take_while, position, position_or_len}
 use Rattle.std.specs.Option.{option_or}
 use Rattle.std.proofs.lemmas.Bool.Decides.{nat_tests}

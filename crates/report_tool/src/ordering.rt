@@ -6,11 +6,11 @@ ghost use Rattle.report_spec.specs.declared.Division.TheVariants.{Region};
 ghost use Rattle.report_tool.specs.Ordered.{in_order, or_order, IsReadIn, IsReadBy};
 ghost use Rattle.report_tool.specs.Ordered.{params_by, zones_by};
 
+use crate::Plan;
+use crate::images::report_of_bytes;
 use crate::release::order_named;
 use crate::reordered::Reordered;
 use crate::showing::{Format, shown, shown_zones};
-use crate::Plan;
-use crate::images::report_of_bytes;
 use outside::Bytes;
 use ramoops_layout::{Order, layout};
 use region_report::{Division, Report, report_of_zones};
@@ -54,12 +54,7 @@ fn report_as(
 }
 
 // Reads bytes by a plan's zones in another order.
-fn read_in(
-    alloc: Global,
-    plan: &Plan,
-    order: Order,
-    bytes: Bytes,
-) -> Result<Read, AllocError>
+fn read_in(alloc: Global, plan: &Plan, order: Order, bytes: Bytes) -> Result<Read, AllocError>
     requires { length bytes ≡ plan.now.mem }
     ensures { IfOk result (λ read. IsReadIn (Some order) plan.now bytes (params_by plan.now read.other)
         (zones_by plan.now read.other) read.report) }

@@ -10,7 +10,9 @@ ghost use Rattle.report_tool.specs.Version.{tag_of};
 use crate::version::{ftrace_tag, order_of_code};
 use death::{Span, part};
 use ramoops_layout::Order;
-use region_report::{End, RecordReport, Telling, console, death_told, end_told, machine_ended, machine_told};
+use region_report::{
+    End, RecordReport, Telling, console, death_told, end_told, machine_ended, machine_told,
+};
 use std::str;
 
 fn is_of_version(b: u8) -> bool

@@ -1,5 +1,4 @@
 -- The zones are whole in bytes of the layout's size. For `report_as`.
-use Rattle.std.proofs.Common.{◌∙◌}
 use Rattle.report_tool.proofs.PlanZones.{whole}
 use Rattle.report_tool.proofs.ordering.report_as.Goals as goal
 
