@@ -2,6 +2,7 @@
 ghost use Rattle.std.specs.Prelude.{None};
 
 use crate::packed_dumps::{DAMAGED, WHOLE, image_of};
+use crate::worked_deaths::{self, NEWER, NONE, OOPS};
 use grammar_spec::ParamFault;
 use layout_search::Candidate;
 use outside::{Bytes, Calls, Failed, MemSink, MemStore};
@@ -127,6 +128,60 @@ fn each_format(rt: HostRuntime) -> Result<(), Fail> {
         };
         let shown = str::from_utf8(&shown)?;
         assert!(rt; shown.starts_with(front) && shown.contains(piece));
+    }
+    Ok(())
+}
+
+// The report as JSON of a dump, a console and two zones more, of which the first has five bytes, by words that give the
+// sizes and this one.
+fn laid_by(alloc: Global, word: &str, dump: &[u8], console: &[u8]) -> Result<Vec<u8>, Fail> {
+    let mut words = Vec::new(alloc);
+    for word in [
+        "mem_size=4096",
+        "record_size=1024",
+        "console_size=1024",
+        "ftrace_size=1024",
+        "pmsg_size=1024",
+        word,
+    ] {
+        words.push(String::from_str(alloc, word)?)?;
+    }
+    let plan = plan_of(alloc, words)?;
+    let bytes = Bytes::from_vec(worked_deaths::image_of(alloc, [dump, console, b"user\n", NONE])?);
+    let mut image = MemStore::new(bytes, 8192, Calls::new(alloc, &[])?)?;
+    let mut out = MemSink::new(alloc, 65536, Calls::new(alloc, &[])?)?;
+    match report(alloc, &plan, Format::Json, "a.img", &mut image, &mut out) {
+        Ok(_) => Ok(Vec::from_slice(alloc, out.bytes())?),
+        Err(_) => Err(Fail::from("the image was reported")),
+    }
+}
+
+fn is_shown(alloc: Global, row: &(&str, &[u8], &[u8], bool)) -> Result<bool, Fail> {
+    let shown = laid_by(alloc, row.0, row.1, row.2)?;
+    let shown = str::from_utf8(&shown)?;
+    let order = match row.3 {
+        true => "\"order\":\"console,pmsg,ftrace\"",
+        false => "\"order\":\"console,ftrace,pmsg\"",
+    };
+    Ok(shown.contains(order) && shown.contains("\"text\":\"user\\n\"") == row.3)
+}
+
+// Pmsg stands before ftrace in Linux 6.12. The kernel that the record names which tells the death or the end says so, if
+// no word does.
+#[test]
+fn an_order_that_the_records_tell(rt: HostRuntime) -> Result<(), Fail> {
+    let rows: [(&str, &[u8], &[u8], bool); 8] = [
+        ("ecc=0", NONE, b"[    0.0] Linux version 6.12.48+deb13-arm64 (a) #1\n", true),
+        ("ecc=0", NONE, b"[    0.0] Linux version 6.1.192 (a) #1\n", false),
+        ("ecc=0", NONE, b"[    0.0] Linux version 6.6.0 (a) #1\n", false),
+        ("ecc=0", NONE, b"[    0.0] Linux\n", false),
+        ("order=console,ftrace,pmsg", NONE, b"[    0.0] Linux version 6.12.0 (a) #1\n", false),
+        ("order=console,pmsg,ftrace", NONE, b"[    0.0] Linux version 6.1.0 (a) #1\n", true),
+        ("ecc=0", NEWER, b"[    0.0] Linux version 6.1.0 (a) #1\n", true),
+        ("ecc=0", OOPS, b"[    0.0] Linux version 6.12.0 (a) #1\n", false),
+    ];
+    for row in rows {
+        assert!(rt; is_shown(rt.alloc(), &row)?);
     }
     Ok(())
 }

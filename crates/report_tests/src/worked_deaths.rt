@@ -50,6 +50,11 @@ pub const LONG: &[u8] = b"[    0.000000] Linux version 6.1.0 (gcc 12) #1 SMP\n\
 [93784.530000] Hardware name: QEMU Standard PC\n\
 [93784.540000] RIP: 0010:boom_deref+0x5/0x20 [boom]\n";
 
+/// A dump of Linux 6.12.
+pub const NEWER: &[u8] = b"====1764201858.836908-D\nPanic#1 Part1\n\
+<0>[    2.500000] Kernel panic - not syncing: sysrq triggered crash\n\
+<4>[    2.600000] CPU: 0 UID: 0 PID: 1 Comm: init Not tainted 6.12.117 #1\n";
+
 /// A console that ends in order.
 pub const ORDERLY: &[u8] = b"[  312.884310] reboot: Restarting system\n";
 

@@ -1,6 +1,6 @@
 -- The words of a layout that explains an image better: what the search finds, and why they are not known
-use Rattle.std.proofs.Common.{◌≡◌, ◌≤◌, ◌∙◌, ℕ, Bool, true, false, List, [], length, take, Option, Some, None, refl, sym, ap}
-use Rattle.std.proofs.Common.{subst, string_bytes, Result, Ok, Err, IfOk, IfSome}
+use Rattle.std.proofs.Common.{◌≡◌, ◌≤◌, ◌∙◌, ℕ, Bool, true, false, List, length, take, Option, Some, refl, sym, ap}
+use Rattle.std.proofs.Common.{subst, string_bytes, Result, Ok, Err, IfOk}
 use Rattle.std.specs.declared.string.String.{String}
 use Rattle.std.specs.declared.alloc.Global.{Global}
 use Rattle.std.proofs.lemmas.Bool.{leb-true}

@@ -4,3 +4,4 @@ mod BetterWords
 mod PlanZones
 mod Splits
 mod Tags
+mod VersionWords

@@ -5,6 +5,8 @@ pub mod Trees
 pub mod Finding
 pub mod Better
 pub mod Shown
+pub mod Releases
+pub mod Ordered
 pub mod Images
 pub mod Saved
 pub mod Version

@@ -77,7 +77,7 @@ params_in path words (Ok nodes) = params_over words (numbers_meant path nodes)
 pub record IsTreePlan (tree : List ℕ) (path : Option (List ℕ)) (words : List (String Global)) (plan : Plan)
     : Type 0 where
   pub read : params_in path words (nodes_of tree) ≡ Ok plan.params
-  pub laid : IsGiven plan
+  pub laid : IsGiven words plan
 
 -- they are read as parameters that have no layout, for this fault
 pub record HasTreeLayoutFault (read : Result Params TreeFault) (fault : LayoutFault) : Type 0 where

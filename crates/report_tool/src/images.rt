@@ -4,10 +4,12 @@ ghost use Rattle.command_spec.specs.declared.Stop.TheVariants.{ImageFault, SinkF
 ghost use Rattle.script_spec.specs.Playing.{KeptUnless};
 ghost use Rattle.image_file.specs.Loading.{LoadStop};
 ghost use Rattle.region_report.specs.Reports.{IsReport};
+ghost use Rattle.report_tool.specs.Ordered.{params_by, zones_by};
 ghost use Rattle.report_tool.specs.Images.{IsRead, IsReported, IsNotReported};
 
 use crate::better::better_words;
-use crate::showing::{Format, shown};
+use crate::ordering::{Read, read_by, shown_read};
+use crate::showing::Format;
 use crate::{Plan, Stop};
 use image_file::load;
 use outside::{Bytes, Failed, Load, Sink};
@@ -27,8 +29,9 @@ pub(crate) fn report_of_bytes(
 }
 
 // Reads an image.
-fn read<M: Load>(alloc: Global, plan: &Plan, image: &mut M) -> Result<Report, Stop>
-    ensures ok { IfOk result (IsRead plan.now (M.holds image.old)) }
+fn read<M: Load>(alloc: Global, plan: &Plan, image: &mut M) -> Result<Read, Stop>
+    ensures ok { IfOk result (λ read. IsRead plan.now (M.holds image.old) (params_by plan.now read.other)
+        (zones_by plan.now read.other) read.report) }
     ensures err { IfErr result (λ s. LoadStop s plan.now.mem (M.holds image.old) (M.faults image.old)
         (M.faults image.new)) }
     ensures same { M.holds image.new ≡ M.holds image.old }
@@ -36,13 +39,13 @@ fn read<M: Load>(alloc: Global, plan: &Plan, image: &mut M) -> Result<Report, St
     ensures later { M.faults image.old ≤ M.faults image.new }
 {
     let bytes = load(alloc, image, plan.mem)?;
-    let report = report_of_bytes(alloc, plan, Bytes::from_vec(bytes))?;
-    Ok(report)
+    let read = read_by(alloc, plan, Bytes::from_vec(bytes))?;
+    Ok(read)
 }
 
 /// Reads the image and gives its report to the sink, written in a format and headed by `path`, with the words of a
-/// layout that explains the image better, if the plan was given and reads badly. The image is only loaded, so it is not
-/// written. The sink is given nothing before all of the report is made.
+/// layout that explains the image better, if the plan was given and reads badly. If no word gives the order of the
+/// zones, it is that of the kernel that the records name. The image is only loaded, so it is not written. The sink is given nothing before all of the report is made.
 pub fn report<M: Load, W: Sink>(
     alloc: Global,
     plan: &Plan,
@@ -59,11 +62,11 @@ pub fn report<M: Load, W: Sink>(
     ensures sink_counts { KeptUnless SinkFault result (W.faults out.old) (W.faults out.new) }
     ensures later { (M.faults image.old ≤ M.faults image.new) × (W.faults out.old ≤ W.faults out.new) }
 {
-    let report = read(alloc, plan, image)?;
-    let better = better_words(alloc, plan, &report, image)?;
-    let bytes = shown(alloc, plan, format, path, &report, &better)?;
+    let read = read(alloc, plan, image)?;
+    let better = better_words(alloc, plan, &read.report, image)?;
+    let bytes = shown_read(alloc, plan, format, path, &read, &better)?;
     match out.put(&bytes) {
-        Ok(()) => Ok(report),
+        Ok(()) => Ok(read.report),
         Err(Failed) => Err(Stop::SinkFault),
     }
 }

@@ -7,7 +7,10 @@
 mod better;
 mod finding;
 mod images;
+mod ordering;
 mod plan;
+mod release;
+mod reordered;
 mod saving;
 mod showing;
 mod tree;

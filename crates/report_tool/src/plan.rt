@@ -2,10 +2,10 @@
 ghost use Rattle.std.specs.Prelude.{◌≡◌, ◌<◌, ◌^◌, true, Some, Ok, MatchResult};
 ghost use Rattle.zone_spec.specs.Layout.{layout_of};
 ghost use Rattle.ramoops_layout.specs.Layouts.{IsCause};
-ghost use Rattle.report_tool.specs.Layouts.{read_by};
+ghost use Rattle.report_tool.specs.Layouts.{read_by, is_open_by};
 
 use grammar_spec::ParamFault;
-use ramoops_layout::{DEFAULTS, LayoutError, layout, read_words, read_words_over};
+use ramoops_layout::{DEFAULTS, LayoutError, given, layout, read_words, read_words_over};
 use region_report::EntryForm;
 use std::alloc::Global;
 use symbols::Symbols;
@@ -36,6 +36,8 @@ pub struct Plan {
     pub(crate) lines: usize,
     /// Whether words or a device tree give the parameters, and not the image itself.
     pub(crate) is_given: bool,
+    /// Whether they say nothing of the order of the zones, which the records can then tell.
+    pub(crate) is_open: bool,
     ghost laid: { layout_of params ≡ Ok zones.items },
     ghost sized: { mem ≡ params.mem },
     ghost tagged: { params.ftrace_sig < 2 ^ 32 },
@@ -50,6 +52,13 @@ fn read(words: &[String], is_as_given: bool) -> Result<Params, ParamFault>
     } else {
         read_words(words)
     }
+}
+
+// Whether no word gives the order of the zones.
+fn is_open_by(words: &[String]) -> bool
+    ensures { result ≡ is_open_by words.now }
+{
+    given(words, "order").is_none()
 }
 
 impl Plan {
@@ -69,6 +78,7 @@ impl Plan {
             entries: None,
             lines: LINES,
             is_given: false,
+            is_open: false,
         })
     }
 
@@ -91,6 +101,7 @@ impl Plan {
             entries,
             lines,
             is_given,
+            is_open,
         } = self;
         Plan {
             params,
@@ -100,6 +111,7 @@ impl Plan {
             entries,
             lines,
             is_given,
+            is_open,
         }
     }
 
@@ -115,6 +127,7 @@ impl Plan {
             entries: _,
             lines,
             is_given,
+            is_open,
         } = self;
         Plan {
             params,
@@ -124,6 +137,7 @@ impl Plan {
             entries: Some(form),
             lines,
             is_given,
+            is_open,
         }
     }
 
@@ -139,6 +153,7 @@ impl Plan {
             entries,
             lines: _,
             is_given,
+            is_open,
         } = self;
         Plan {
             params,
@@ -148,12 +163,13 @@ impl Plan {
             entries,
             lines,
             is_given,
+            is_open,
         }
     }
 
-    // The same plan, of parameters that were given.
-    pub(crate) fn given(self) -> Plan
-        ensures { result ≡ record self { is_given = true } }
+    // The same plan, of parameters that were given, with these words, which can lack the order of the zones.
+    pub(crate) fn given(self, words: &[String]) -> Plan
+        ensures { result ≡ record self { is_given = true; is_open = is_open_by words.now } }
     {
         let Plan {
             params,
@@ -163,6 +179,7 @@ impl Plan {
             entries,
             lines,
             is_given: _,
+            is_open: _,
         } = self;
         Plan {
             params,
@@ -172,6 +189,7 @@ impl Plan {
             entries,
             lines,
             is_given: true,
+            is_open: is_open_by(words),
         }
     }
 
@@ -185,7 +203,7 @@ impl Plan {
             Err(fault) => return Err(PlanFault::Word(fault)),
         };
         match Plan::of_params(alloc, params) {
-            Ok(plan) => Ok(plan.given()),
+            Ok(plan) => Ok(plan.given(words)),
             Err(LayoutError::Fault(fault)) => Err(PlanFault::Layout(fault)),
             Err(LayoutError::Memory) => Err(PlanFault::Memory),
         }

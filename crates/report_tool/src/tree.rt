@@ -141,7 +141,8 @@ fn params_in(
 impl Plan {
     /// The plan of a board's flattened device tree (`fs/pstore/ram.c`, `ramoops_parse_dt`): of its only ramoops node,
     /// or of the node of this path, as `/reserved-memory/ramoops@8f000000`. Words (`key=value`) count more than the
-    /// node; what neither gives, the number of processors and the tag of ftrace zones, is 1 and 0, and the order that of Linux 6.1.
+    /// node; what neither gives, the number of processors and the tag of ftrace zones, is 1 and 0, and the order of the zones that of Linux 6.1, unless a record
+    /// names a kernel with another.
     pub fn of_tree(
         alloc: Global,
         tree: &[u8],
@@ -153,7 +154,7 @@ impl Plan {
     {
         let params = params_in(alloc, tree, path, words)?;
         match Plan::of_params(alloc, params) {
-            Ok(plan) => Ok(plan.given()),
+            Ok(plan) => Ok(plan.given(words)),
             Err(LayoutError::Fault(fault)) => Err(TreeFault::Layout(fault)),
             Err(LayoutError::Memory) => Err(TreeFault::Memory),
         }

@@ -68,7 +68,7 @@ pub fn ftrace_tag(version: &str) -> Option<u32>
     }
 }
 
-fn order_of_code(code: u32) -> Option<Order>
+pub(crate) fn order_of_code(code: u32) -> Option<Order>
     ensures { result ≡ order_of_code code }
 {
     if code < 0x60200 {

@@ -2,6 +2,6 @@
 use Rattle.std.proofs.Common.{◌∙◌, sym, ap, length}
 use Rattle.report_tool.proofs.images.read.Goals as goal
 
-pub report_of_bytes-requires : goal.report_of_bytes-requires
-report_of_bytes-requires g c =
+pub read_by-requires : goal.read_by-requires
+read_by-requires g c =
     ap length c.from_vec.ensures ∙ sym c.in_ok-bytes.bytes.ok.0 ∙ c.in_ok-bytes.ensures.ok.0

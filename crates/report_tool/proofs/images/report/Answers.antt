@@ -13,5 +13,5 @@ returns-in_err-better-clause-reported g c =
     stopped c.args.format c.args.path.now c.args.plan.now (g.M.Load.holds c.args.image.now)
     (g.W.Sink.given c.args.out.now) _ c.in_err-better.field-0.0 (g.M.Load.faults c.args.image.now)
     (g.M.Load.faults c.read.new.image) (g.M.Load.faults c.better_words.new.image) (g.W.Sink.faults c.args.out.now)
-    c.in_ok-report.ensures.counts c.in_err-better.ensures.err in
+    c.in_ok-read.ensures.counts c.in_err-better.ensures.err in
     search rules
