@@ -1,2 +1,5 @@
 pub mod Fronts
 pub mod Readings
+mod Scanning
+mod Pieces
+mod Copies

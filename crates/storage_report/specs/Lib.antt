@@ -1,3 +1,6 @@
 pub mod Held
 pub mod Reports
 pub mod Given
+pub mod Scans
+pub mod Pieces
+pub mod Copies

@@ -2,8 +2,10 @@
 //! by its zones, and shown as the report of a region is.
 #![tactic(auto)]
 
+mod filling;
 mod loading;
 mod reading;
+mod scanning;
 mod showing;
 mod storage;
 
