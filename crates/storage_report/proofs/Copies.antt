@@ -20,6 +20,9 @@ use Rattle.psz_read.specs.Laws.{ReadsTheSame}
 use Rattle.psz_read.proofs.Fronts.{front_same, part_same}
 use Rattle.storage_report.specs.Copies.{HasRange, Keeps, HasSpan, IsFilled, front_of, HasLog, IsLogFilled, HasZone}
 use Rattle.storage_report.specs.Copies.{HasZones}
+use Rattle.psz_spec.specs.Layouts.{zones_of}
+use Rattle.storage_spec.specs.declared.Storage.{Storage}
+use Rattle.storage_zones.specs.Laws.{ReadTheSame}
 
 -- ---- one read
 
@@ -89,6 +92,11 @@ module _ (a k : ℕ) (image copy ys : List ℕ) (inside : a + k ≤ length copy)
       after a k i copy ys inside len past ∙ get_or_past copy i 0 (omega (arith, end, past))
       ∙ sym (get_or_past image i 0 (omega (arith, same, end, past)))
 
+most_at : (k n len at : ℕ) → k ≡ min n (len - at) → at < len → (n < len - at) ⊎ (len - at ≤ n)
+    → (k ≡ n) ⊎ (at + k ≡ len)
+most_at k n len at least start (inl less) = inl (omega (arith, least, less))
+most_at k n len at least start (inr more) = inr (omega (arith, least, start, more))
+
 pub piece_filled : (image copy ys : List ℕ) (span : Span) (k : ℕ) → length copy ≤ length image → length ys ≡ k
     → span.at + k ≤ length copy → (k ≡ span.len) ⊎ (span.at + k ≡ length copy) → ys ≡ take k (drop span.at image)
     → IsFilled (take (length copy) image) span copy (put_mid span.at k copy ys)
@@ -104,6 +112,17 @@ piece_filled image copy ys span k fits len inside most e =
       has = λ i from to. reach_at a k front copy ys inside len there i span.len (length-take-le n image fits) most from to
           (cases_lt i (a + k));
     }
+
+-- what `read_at` reads into a part of the copy
+pub filled_at : (holds : Option (List ℕ)) (copy into : List ℕ) (span : Span) (k n : ℕ)
+    → k ≡ min span.len (length copy - span.at) → span.at < length copy → n ≡ k → length into ≡ k
+    → IfSome holds (λ image. length copy ≤ length image) → IfSome holds (λ image. into ≡ take n (drop span.at image))
+    → IfSome holds (λ image. IsFilled (take (length copy) image) span copy (put_mid span.at k copy into))
+filled_at None copy into span k n least start same len fits read = tt
+filled_at (Some image) copy into span k n least start same len fits read =
+    piece_filled image copy into span k fits len (omega (arith, least, start)) (most_at k span.len (length copy) span.at
+    least start (cases_lt span.len (length copy - span.at)))
+    (read ∙ ap (λ (m : ℕ). take m (drop span.at image)) same)
 
 -- ---- one zone
 
@@ -191,6 +210,26 @@ zone_filled machine image old between new z part len e front log = record {
       log.has;
 }
 
+front_len : (n : ℕ) (image : List ℕ) → n ≤ length image → n ≡ length (take n image)
+front_len n image h = sym (length-take-le n image h)
+
+pub zone_at : (holds then : Option (List ℕ)) (machine : Machine) (z : Zone) (front : Span) (old between new : List ℕ)
+    (part : Option Part) → then ≡ holds → front ≡ front_of z → length between ≡ length old
+    → IfSome holds (λ image. length old ≤ length image) → part ≡ part_of machine z (zone_bytes z between)
+    → IfSome holds (λ image. IsFilled (take (length old) image) front old between)
+    → IfSome then (λ image. IsLogFilled (take (length between) image) part between new)
+    → IfSome holds (λ image. HasZone machine (take (length old) image) new z)
+zone_at None then machine z front old between new part same is len fits e filled log = tt
+zone_at (Some image) None machine z front old between new part same is len fits e filled log = cc
+zone_at (Some image) (Some other) machine z front old between new part same is len fits e filled log =
+    let n = length old in
+    let one : other ≡ image = cc in
+    let bytes : take (length between) other ≡ take n image =
+    ap (λ (k : ℕ). take k other) len ∙ ap (λ (xs : List ℕ). take n xs) one in
+    zone_filled machine (take n image) old between new z part (len ∙ front_len n image fits) e
+    (subst (λ (s : Span). IsFilled (take n image) s old between) is filled)
+    (subst (λ (xs : List ℕ). IsLogFilled xs part between new) bytes log)
+
 -- ---- all zones
 
 log_same : (image copy : List ℕ) (o : Option Part) (part : Part) → length copy ≡ length image
@@ -228,3 +267,27 @@ zones_more machine image old new zones i d lt keeps has h =
     subst (λ (zs : List Zone). HasZones machine zs image new) (sym (take_more zones i d lt))
     (all_push (HasZone machine image new) (take i zones) (get_or zones i d)
     (zones_keep machine image old new (take i zones) keeps has) h)
+
+pub zones_at : (holds then : Option (List ℕ)) (machine : Machine) (zones : List Zone) (i n : ℕ) (d : Zone)
+    (old new : List ℕ) → then ≡ holds → length old ≡ n → i < length zones
+    → IfSome then (λ image. Keeps (take (length old) image) old new)
+    → IfSome then (λ image. HasZone machine (take (length old) image) new (get_or zones i d))
+    → IfSome holds (λ image. HasZones machine (take i zones) (take n image) old)
+    → IfSome holds (λ image. HasZones machine (take (i + 1) zones) (take n image) new)
+zones_at None then machine zones i n d old new same len lt keeps one has = tt
+zones_at (Some image) None machine zones i n d old new same len lt keeps one has = cc
+zones_at (Some image) (Some other) machine zones i n d old new same len lt keeps one has =
+    let is : other ≡ image = cc in
+    let bytes : take (length old) other ≡ take n image =
+    ap (λ (k : ℕ). take k other) len ∙ ap (λ (xs : List ℕ). take n xs) is in
+    zones_more machine (take n image) old new zones i d lt (subst (λ (xs : List ℕ). Keeps xs old new) bytes keeps) has
+    (subst (λ (xs : List ℕ). HasZone machine xs new (get_or zones i d)) bytes one)
+
+pub copy_reads : (holds : Option (List ℕ)) (s : Storage) (total : ℕ) (zones : List Zone) (copy : List ℕ)
+    → zones ≡ zones_of s.sizes → length copy ≡ total → IfSome holds (λ image. total ≤ length image)
+    → IfSome holds (λ image. HasZones s.machine zones (take total image) copy)
+    → IfSome holds (λ image. ReadTheSame s (take total image) copy)
+copy_reads None s total zones copy e len fits has = tt
+copy_reads (Some image) s total zones copy e len fits has =
+    zones_read s.machine (take total image) copy (zones_of s.sizes) (len ∙ front_len total image fits)
+    (subst (λ (zs : List Zone). HasZones s.machine zs (take total image) copy) e has)

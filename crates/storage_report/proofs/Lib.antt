@@ -1,5 +1,6 @@
 pub mod Fronts
 pub mod Readings
-mod Scanning
+mod HeadersSeen
 mod Pieces
 mod Copies
+mod Holding

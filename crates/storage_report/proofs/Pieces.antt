@@ -9,8 +9,8 @@ use Rattle.storage_report.specs.declared.scanning.Piece.{Piece}
 use Rattle.storage_report.specs.declared.scanning.Seen.{Seen}
 use Rattle.storage_report.specs.Scans.{order_more, mark_more, machine_more, machine_by, is_decided}
 use Rattle.storage_report.specs.Pieces.{IsPieceOf, HasBlock}
-use Rattle.storage_report.proofs.Scanning.{SeenTo, seen_none, seen_as, seen_more, seen_all, seen_enough, marks_all}
-use Rattle.storage_report.proofs.Scanning.{front_block, piece_block}
+use Rattle.storage_report.proofs.HeadersSeen.{SeenTo, seen_none, seen_as, seen_more, seen_all, seen_enough, marks_all}
+use Rattle.storage_report.proofs.HeadersSeen.{front_block, piece_block}
 
 pub block_of : (p : Piece) (at : ℕ) (block : List ℕ) (holds : Option (List ℕ))
     → block ≡ take 512 (drop (at - p.from) p.bytes.items) → HasBlock at p → IsPieceOf holds p

@@ -25,7 +25,6 @@ use storage_zones::{few_bytes_are_a_report, storage_by};
 const MOST: u64 = 134_217_728;
 
 // How many bytes the whole pages at the front of an image have.
-#[tactic(auto, using(crate::proofs::Fronts::front_is, crate::proofs::Fronts::front_inside))]
 fn front_len<M: Load>(image: &mut M) -> Result<u32, Stop>
     ensures inside { IfOk result (λ n. IfSome (M.holds image.old) (λ bs. n ≤ length bs)) }
     ensures front { IfOk result (λ n. IfSome (M.holds image.old) (λ bs. take n bs ≡ front_of bs)) }

@@ -133,7 +133,6 @@ impl Seen {
 struct Piece {
     from: u32,
     bytes: Vec<u8>,
-    ghost few: { length bytes.items ≤ 65536 },
 }
 
 impl Piece {
@@ -147,8 +146,7 @@ impl Piece {
     }
 
     fn read<M: Load>(alloc: Global, image: &mut M, at: u32, count: u32) -> Result<Piece, Stop>
-        requires few { count ≤ 65536 }
-        requires inside { IfSome (M.holds image.old) (λ bs. at + count ≤ length bs) }
+        requires { IfSome (M.holds image.old) (λ bs. at + count ≤ length bs) }
         ensures from { IfOk result (λ p. p.from ≡ at) }
         ensures long { IfOk result (λ p. length p.bytes.items ≡ count) }
         ensures bytes { IfOk result (λ p. IfSome (M.holds image.old) (λ bs. p.bytes.items ≡ take count (drop at bs))) }

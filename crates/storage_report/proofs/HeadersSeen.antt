@@ -111,7 +111,13 @@ pub record SeenTo (image : List ℕ) (i : ℕ) (order : Option ByteOrder) (shown
       ≡ machine_or shown (little_machine image (marks_from Little (length image / 512 - i) (i * 512) image))
 
 pub seen_none : (image : List ℕ) → SeenTo image 0 None None []
-seen_none image = record { order_rest = refl; marks_rest = refl; machine_rest = λ h. refl }
+seen_none image =
+    let none : length image / 512 - 0 ≡ length image / 512 = omega arith in
+    record {
+      order_rest = ap (λ (n : ℕ). order_from n 0 image) (sym none);
+      marks_rest = ap (λ (n : ℕ). marks_from (order_in image) n 0 image) none;
+      machine_rest = λ h. ap (λ (n : ℕ). little_machine image (marks_from Little n 0 image)) (sym none);
+    }
 
 order_next : (order : Option ByteOrder) (total at : ℕ) (far : List ℕ) (whole rest : ByteOrder)
     → whole ≡ order_or order (order_or (order_at total at far) rest)
