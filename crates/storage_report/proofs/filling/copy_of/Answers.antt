@@ -2,7 +2,7 @@
 use Rattle.std.proofs.Common.{◌≡◌, ◌∙◌, ℕ, List, length, take, sym, ap, subst, arith}
 use Rattle.std.specs.Prelude.{Option, IfSome}
 use Rattle.std.proofs.lemmas.List.{with_items_is}
-use Rattle.std_alloc.specs.Vec.{with_items}
+use Rattle.std.specs.Vec.{with_items}
 use Rattle.storage_zones.specs.Laws.{ReadTheSame}
 use Rattle.storage_report.specs.Copies.{HasZones}
 use Rattle.storage_report.proofs.Copies.{copy_reads}
