@@ -1,9 +1,9 @@
 -- A copy of an image that was filled where its report needs it. For `fill`, `fill_log`, `fill_zone`, `fill_zones` and
 -- `copy_of`.
-use Rattle.std.proofs.Common.{◌≡◌, ◌∙◌, ◌⊎◌, inl, inr, ℕ, zero, suc, ◌+◌, ◌-◌, ◌<◌, ◌≤◌, refl, sym, ap, ap₂, subst}
+use Rattle.std.proofs.Common.{◌≡◌, ◌∙◌, ◌⊎◌, inl, inr, ℕ, ◌+◌, ◌-◌, ◌<◌, ◌≤◌, sym, ap, ap₂, subst}
 use Rattle.std.proofs.Common.{arith}
-use Rattle.std.proofs.Common.{List, [], ◌∷◌, ◌++◌, length, take, drop, get_or, min, Bool, true, false}
-use Rattle.std.specs.Prelude.{Option, Some, None, IfSome, slice_index, Result, Ok, Err, OnOk}
+use Rattle.std.proofs.Common.{List, [], ◌∷◌, ◌++◌, length, take, drop, get_or, min}
+use Rattle.std.specs.Prelude.{Option, Some, None, IfSome, slice_index}
 use Rattle.std.specs.List.{AllByRecursion}
 use Rattle.std.proofs.lemmas.List.{ext_get_or, get_or-take, get_or-drop, get_or_past, get_or_append_left}
 use Rattle.std.proofs.lemmas.List.{get_or-append_right, length-take, length-drop, length-take-le, take-take, take_all}

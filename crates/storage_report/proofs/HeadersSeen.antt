@@ -1,6 +1,6 @@
 -- What the headers of an image up to a place tell of all of them. For `scan`.
-use Rattle.std.proofs.Common.{◌≡◌, ◌∙◌, ℕ, zero, ◌+◌, ◌-◌, ◌*◌, ◌/◌, ◌<◌, ◌≤◌, refl, sym, ap, ap₂, subst, arith}
-use Rattle.std.proofs.Common.{List, [], ◌∷◌, ◌++◌, length, take, drop, Bool, true, false}
+use Rattle.std.proofs.Common.{◌≡◌, ◌∙◌, ℕ, ◌+◌, ◌-◌, ◌*◌, ◌/◌, ◌<◌, ◌≤◌, refl, sym, ap, ap₂, subst, arith}
+use Rattle.std.proofs.Common.{List, [], ◌++◌, length, take, drop, Bool, true, false}
 use Rattle.std.specs.Prelude.{Option, Some, None, is_some, ◌&&◌, ◌==◌, nat_le, nat_lt, if◌then◌else◌}
 use Rattle.std.proofs.lemmas.List.{drop-take, take-take, drop-drop}
 use Rattle.zone_spec.specs.declared.params.ByteOrder.{ByteOrder}
@@ -9,13 +9,13 @@ use Rattle.psz_spec.specs.declared.Kind.{Kind}
 use Rattle.psz_spec.specs.declared.Kind.TheVariants.{Pmsg, Console, Ftrace, Dump}
 use Rattle.psz_spec.specs.declared.Mark.{Mark}
 use Rattle.psz_spec.specs.declared.Machine.{Machine}
-use Rattle.psz_spec.specs.declared.Machine.TheVariants.{Aligned, X86, BigEndian}
+use Rattle.psz_spec.specs.declared.Machine.TheVariants.{Aligned, X86}
 use Rattle.psz_spec.specs.declared.DumpHeader.{DumpHeader}
-use Rattle.psz_spec.specs.Headers.{word, dump_header}
+use Rattle.psz_spec.specs.Headers.{word}
 use Rattle.psz_spec.specs.States.{data_of}
 use Rattle.psz_spec.specs.Records.{is_of}
 use Rattle.psz_spec.specs.Marks.{kind_of, is_whole, mark_by, mark_at, order_at, order_or, order_from, order_in, as_marks}
-use Rattle.psz_spec.specs.Marks.{marks_from, marks_in, packed_place, reads_as, machine_if, machine_shown, machine_or}
+use Rattle.psz_spec.specs.Marks.{marks_from, marks_in, machine_if, machine_shown, machine_or}
 use Rattle.psz_spec.specs.Marks.{little_machine, machine_in}
 use Rattle.psz_read.proofs.Fronts.{word_front, header_front}
 use Rattle.psz_read.proofs.Rests.{order_step, marks_step, marks_more, marks_end}

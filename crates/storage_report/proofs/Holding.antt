@@ -1,6 +1,6 @@
 -- What the front of an image shows, or how sizes divide it. For `shown_storage` and `divided_storage`.
 use Rattle.std.proofs.Common.{◌≡◌, ◌∙◌, ◌≤◌, List, ℕ, Option, Some, None, length, take, ap, ap₂, refl, sym, subst, false}
-use Rattle.std.specs.Prelude.{IfSome, Result, Ok, Err}
+use Rattle.std.specs.Prelude.{IfSome, Ok, Err}
 use Rattle.std.proofs.lemmas.List.{length-take-le}
 use Rattle.psz_spec.specs.declared.Machine.{Machine}
 use Rattle.psz_spec.specs.declared.Sizes.{Sizes}
@@ -13,7 +13,7 @@ use Rattle.storage_words.specs.Division.{sized, storage_given, ok_unless, storag
 use Rattle.storage_report.specs.declared.scanning.Seen.{Seen}
 use Rattle.storage_report.specs.declared.storage.HeldStorage.{HeldStorage}
 use Rattle.storage_report.specs.Scans.{machine_by}
-use Rattle.storage_report.specs.Held.{ShowsTheSame, IsShownIn, IsHeld, IsDividedBy}
+use Rattle.storage_report.specs.Held.{ShowsTheSame, IsHeld, IsDividedBy}
 
 -- ---- by sizes that are given
 

@@ -1,6 +1,5 @@
 -- The storage that an image is
 use Rattle.std.specs.Prelude.{◌≡◌, ⊤, ℕ, List, Option, Some, None, Ok, Err, IfSome}
-use Rattle.command_spec.specs.declared.Stop.{Stop}
 use Rattle.image_file.specs.Loading.{FrontStop}
 use Rattle.psz_spec.specs.declared.Sizes.{Sizes}
 use Rattle.storage_words.specs.declared.Storages.{Storages}

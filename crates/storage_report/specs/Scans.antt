@@ -1,5 +1,5 @@
 -- What the headers of an image show, one place after another, 512 bytes apart
-use Rattle.std.specs.Prelude.{◌≡◌, ℕ, List, length, take, drop, Bool, true, false, if◌then◌else◌, Option, Some, None, IfSome}
+use Rattle.std.specs.Prelude.{ℕ, List, Bool, true, false, Option, Some, None}
 use Rattle.zone_spec.specs.declared.params.ByteOrder.{ByteOrder}
 use Rattle.zone_spec.specs.declared.params.ByteOrder.TheVariants.{Little, Big}
 use Rattle.psz_spec.specs.declared.Kind.TheVariants.{Dump}

@@ -1,5 +1,5 @@
 -- What was read stands at its place. For `fill`.
-use Rattle.std.proofs.Common.{◌≡◌, ◌∙◌, ◌+◌, ◌-◌, ◌<◌, ℕ, arith, length, take, drop, min}
+use Rattle.std.proofs.Common.{◌≡◌, ◌∙◌, ◌+◌, ◌-◌, ◌<◌, arith, length, take, drop, min}
 use Rattle.std.proofs.lemmas.Grind.{common_steps}
 use Rattle.storage_report.proofs.Copies.{filled_at}
 use Rattle.storage_report.proofs.filling.fill.Goals as goal

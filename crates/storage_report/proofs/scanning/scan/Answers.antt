@@ -1,6 +1,6 @@
 -- Each block adds what it shows. For `scan`.
-use Rattle.std.proofs.Common.{◌≡◌, ◌∙◌, ◌+◌, ◌*◌, ℕ, List, take, drop, sym, subst, arith}
-use Rattle.std.specs.Prelude.{Option, IfSome}
+use Rattle.std.proofs.Common.{◌∙◌, ◌+◌, ℕ, List, sym, subst, arith}
+use Rattle.std.specs.Prelude.{Option}
 use Rattle.storage_report.specs.Pieces.{IsPieceOf}
 use Rattle.storage_report.proofs.Pieces.{IsSeenTo, more, all, all_marks, enough}
 use Rattle.storage_report.proofs.scanning.scan.Goals as goal
