@@ -4,3 +4,4 @@ pub mod Given
 pub mod Scans
 pub mod Pieces
 pub mod Copies
+pub mod Laws
