@@ -8,7 +8,7 @@ use outside::{Failed, FileLoad, Load};
 use report_run::{Failure, Images, Wanted};
 use std::alloc::Global;
 use std::fs;
-use std::io::{self, ErrorKind, Read};
+use std::io::{self, ErrorKind, Read, Seek, SeekFrom};
 use std::rt::Runtime;
 
 /// How many bytes are asked for at a time.
@@ -18,7 +18,9 @@ const PIECE: usize = 65_536;
 #[derive(Drop)]
 enum Kind<R: Runtime> {
     File(FileLoad<R>),
-    /// Of standard input or a device its front, of a compressed file all that it stands for.
+    /// A device that is read at places, such as a disk's partition, and how many bytes of it are wanted.
+    Device(R::File, u64),
+    /// Of standard input or another device its front, of a compressed file all that it stands for.
     Front(Vec<u8>),
 }
 
@@ -46,6 +48,14 @@ fn copy_from(bytes: &[u8], at: u64, into: &mut [u8]) -> Result<(), Failed> {
     }
 }
 
+fn read_from<F: Read + Seek>(file: &mut F, at: u64, into: &mut [u8]) -> Result<(), Failed> {
+    if file.seek(SeekFrom::Start(at)).is_ok() && file.read_exact(into).is_ok() {
+        Ok(())
+    } else {
+        Err(Failed)
+    }
+}
+
 impl<R: Runtime> Load for Image<R> {
     ghost holds = { λ _. None };
 
@@ -60,6 +70,7 @@ impl<R: Runtime> Load for Image<R> {
     fn size(&mut self) -> Result<u64, Failed> {
         let size = match &mut self.kind {
             Kind::File(file) => file.size(),
+            Kind::Device(_, size) => Ok(*size),
             Kind::Front(bytes) => Ok(bytes.len() as u64),
         };
         if size.is_err() {
@@ -71,6 +82,7 @@ impl<R: Runtime> Load for Image<R> {
     fn read_at(&mut self, at: u64, into: &mut [u8]) -> Result<(), Failed> {
         let read = match &mut self.kind {
             Kind::File(file) => file.read_at(at, into),
+            Kind::Device(file, _) => read_from(file, at, into),
             Kind::Front(bytes) => copy_from(bytes, at, into),
         };
         if read.is_err() {
@@ -100,6 +112,15 @@ fn front_of<F: Read>(alloc: Global, reader: &mut F, most: usize) -> io::Result<V
     Ok(front)
 }
 
+// The device at a path. One that tells its end is read at places.
+fn open_device<R: Runtime>(rt: &R, alloc: Global, path: &str, most: u32) -> Result<Kind<R>> {
+    let mut device = fs::File::open(rt, path)?;
+    match device.seek(SeekFrom::End(0)) {
+        Ok(size) if size > 0 => Ok(Kind::Device(device, size.min(u64::from(most)))),
+        Ok(_) | Err(_) => Ok(Kind::Front(front_of(alloc, &mut device, most as usize)?)),
+    }
+}
+
 // The image at a path.
 fn open<R: Runtime, S: Read>(
     rt: &R,
@@ -127,8 +148,7 @@ fn open<R: Runtime, S: Read>(
             false => Ok(Kind::File(file)),
         };
     }
-    let mut device = fs::File::open(rt, path)?;
-    Ok(Kind::Front(front_of(alloc, &mut device, most as usize)?))
+    open_device(rt, alloc, path, most)
 }
 
 // The file at a path, as it stands.

@@ -33,7 +33,7 @@ four : (order : ByteOrder) (a b c d e f g h : ℕ) → a ≡ e → b ≡ f → c
 four order a b c d e f g h p q r s =
     ap (word_of order) (let e : a ∷ b ∷ c ∷ d ∷ [] ≡ e ∷ f ∷ g ∷ h ∷ [] = cc in e)
 
-word_front : (order : ByteOrder) (n : ℕ) (bytes : List ℕ) (at : ℕ) → at + 4 ≤ n
+pub word_front : (order : ByteOrder) (n : ℕ) (bytes : List ℕ) (at : ℕ) → at + 4 ≤ n
     → word order (take n bytes) at ≡ word order bytes at
 unfolding word
 word_front order n bytes at h =
@@ -89,7 +89,7 @@ kept_front BigEndian m kept h =
     let i : word Big (take m kept) 32 ≡ word Big kept 32 = word_front Big m kept 32 (omega (arith, h)) in
     rw (a, b, c, d, e, f, g, i) refl
 
-header_front : (machine : Machine) (n : ℕ) (bytes : List ℕ) → 52 ≤ n
+pub header_front : (machine : Machine) (n : ℕ) (bytes : List ℕ) → 52 ≤ n
     → dump_header machine (data_of (take n bytes)) ≡ dump_header machine (data_of bytes)
 header_front machine n bytes h =
     ap (λ (k : ℕ). dump_header machine (drop 12 (take k bytes)))

@@ -1,8 +1,8 @@
 mod RunZones
 mod RunRoom
-mod Rests
+pub mod Rests
 mod Divisors
-mod Fronts
+pub mod Fronts
 mod PartRecords
 mod CursorSteps
-mod Agreeing
+pub mod Agreeing

@@ -102,7 +102,7 @@ marks_end order n i image marks whole past h =
 abbrev order_here : ℕ → List ℕ → Option ByteOrder
 order_here i image = order_at (length image) (i * 512) (drop (i * 512) image)
 
-order_step : (n i : ℕ) (image : List ℕ) → i < n
+pub order_step : (n i : ℕ) (image : List ℕ) → i < n
     → order_from (n - i) (i * 512) image
     ≡ order_or (order_here i image) (order_from (n - (i + 1)) ((i + 1) * 512) image)
 unfolding order_from

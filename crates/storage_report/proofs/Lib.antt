@@ -1,2 +1,6 @@
 pub mod Fronts
 pub mod Readings
+mod HeadersSeen
+mod Pieces
+mod Copies
+mod Holding

@@ -1,5 +1,5 @@
 -- The report of a storage is one of its zones. For `read`.
-use Rattle.std.proofs.Common.{◌≡◌, ◌∙◌, ℕ, List, length, map, sym, ap}
+use Rattle.std.proofs.Common.{◌≡◌, ◌∙◌, ℕ, List, length, sym, ap}
 use Rattle.std.proofs.lemmas.List.{length-map, length-replicate}
 use Rattle.psz_spec.specs.declared.Machine.{Machine}
 use Rattle.psz_spec.specs.declared.Sizes.{Sizes}

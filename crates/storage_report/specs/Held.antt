@@ -1,21 +1,29 @@
 -- The storage that an image is
 use Rattle.std.specs.Prelude.{◌≡◌, ⊤, ℕ, List, Option, Some, None, Ok, Err, IfSome}
-use Rattle.command_spec.specs.declared.Stop.{Stop}
-use Rattle.command_spec.specs.declared.Stop.TheVariants.{Memory}
 use Rattle.image_file.specs.Loading.{FrontStop}
 use Rattle.psz_spec.specs.declared.Sizes.{Sizes}
 use Rattle.storage_words.specs.declared.Storages.{Storages}
 use Rattle.storage_words.specs.declared.Storages.TheVariants.{Never, Shown, All}
+use Rattle.storage_spec.specs.declared.Storage.{Storage}
 use Rattle.storage_spec.specs.Found.{front_of, storage_in}
+use Rattle.storage_spec.specs.Zones.{readings_in}
+use Rattle.storage_spec.specs.Records.{held_in}
+use Rattle.storage_spec.specs.Told.{storage_lines}
 use Rattle.storage_words.specs.Division.{storage_of}
 use Rattle.storage_report.specs.declared.storage.HeldStorage.{HeldStorage}
 use Rattle.storage_report.specs.declared.storage.NoStorage.{NoStorage}
 use Rattle.storage_report.specs.declared.storage.NoStorage.TheVariants.{Stopped, Undivided}
 
--- the storage that these bytes show, with them
+-- a copy of an image, that may have other bytes, and shows the same of a storage: readings, records and lines
+pub record ShowsTheSame (s : Storage) (image copy : List ℕ) : Type 0 where
+  pub readings : readings_in s.machine s.sizes image ≡ readings_in s.machine s.sizes copy
+  pub records : held_in s.machine s.sizes image ≡ held_in s.machine s.sizes copy
+  pub lines : (name : List ℕ) → storage_lines name s image ≡ storage_lines name s copy
+
+-- the storage that these bytes show, with a copy of them
 pub record IsShownBy (bytes : List ℕ) (h : HeldStorage) : Type 0 where
   pub shown : storage_in bytes ≡ Some h.storage
-  pub bytes_same : h.bytes.items ≡ bytes
+  pub same : ShowsTheSame h.storage bytes h.bytes.items
 
 abbrev pub IsShownIn : List ℕ → Option HeldStorage → Type 0
 IsShownIn bytes None = storage_in bytes ≡ None
@@ -27,15 +35,10 @@ IsHeld holds held = IfSome holds (λ image. IsShownIn (front_of image) held)
 
 -- ---- by sizes that are given
 
--- the storage that they divide, with its bytes
+-- the storage that they divide, with a copy of its bytes
 pub record IsDividedBy (sizes : Sizes) (bytes : List ℕ) (h : HeldStorage) : Type 0 where
   pub divided : storage_of sizes bytes ≡ Ok h.storage
-  pub bytes_same : h.bytes.items ≡ bytes
-
--- memory ran out, or no kernel divides the bytes by them
-abbrev pub IsUndividedBy : Sizes → List ℕ → NoStorage → Type 0
-IsUndividedBy sizes bytes (Stopped stop) = stop ≡ Memory
-IsUndividedBy sizes bytes (Undivided fault) = storage_of sizes bytes ≡ Err fault
+  pub same : ShowsTheSame h.storage bytes h.bytes.items
 
 abbrev pub IsDivided : Sizes → Option (List ℕ) → HeldStorage → Type 0
 IsDivided sizes holds h = IfSome holds (λ image. IsDividedBy sizes (front_of image) h)

@@ -1,70 +1,101 @@
 // A storage in an image.
-ghost use Rattle.std.specs.Prelude.{◌≡◌, ◌<◌, ◌≤◌, ◌^◌, length, IfOk, IfErr, MatchResult};
-ghost use Rattle.storage_spec.specs.Found.{whole_pages};
+ghost use Rattle.std.specs.Prelude.{◌≡◌, ◌≤◌, List, ℕ, length, take, None, IfOk, IfErr, OnOk, IfSome, MatchResult};
+ghost use Rattle.psz_spec.specs.Layouts.{size_fault};
+ghost use Rattle.psz_spec.specs.Marks.{order_in, marks_in};
+ghost use Rattle.storage_spec.specs.Found.{front_of, machine_of, storage_in};
 ghost use Rattle.image_file.specs.Loading.{FrontStop};
-ghost use Rattle.storage_report.specs.Held.{IsShownIn, IsHeld, IsDividedBy, IsUndividedBy, IsDivided, IsUndivided};
+ghost use Rattle.storage_words.specs.Division.{sized as sized_by};
+ghost use Rattle.storage_report.specs.Scans.{machine_by};
+ghost use Rattle.storage_report.specs.Held.{ShowsTheSame, IsHeld, IsDivided, IsUndivided};
 ghost use Rattle.storage_report.specs.Held.{IsLookedAt, IsNotLookedAt};
 
+use crate::filling::copy_of;
+use crate::scanning::{Seen, scan};
 use crate::storage::{HeldStorage, NoStorage};
 use command_spec::Stop;
-use image_file::load_front;
-use outside::Load;
+use outside::{Failed, Load};
+use psz_read::{shown_sizes, size_fault};
 use psz_spec::Sizes;
-use std::alloc::{AllocError, Global};
-use storage_words::{Storages, storage_of};
-use storage_zones::storage_in;
+use std::alloc::Global;
+use storage_spec::Storage;
+use storage_words::Storages;
+use storage_zones::{few_bytes_are_a_report, storage_by};
 
 /// The kernel uses no more of a storage.
-const MOST: u32 = 134_217_728;
+const MOST: u64 = 134_217_728;
 
-// The whole pages at the front of bytes.
-fn whole_pages(bytes: Vec<u8>) -> Vec<u8>
-    requires { length bytes.items < 2 ^ 32 }
-    ensures pages { result.items ≡ whole_pages bytes.items }
-    ensures short { length result.items < 2 ^ 32 }
+// How many bytes the whole pages at the front of an image have.
+fn front_len<M: Load>(image: &mut M) -> Result<u32, Stop>
+    ensures inside { IfOk result (λ n. IfSome (M.holds image.old) (λ bs. n ≤ length bs)) }
+    ensures front { IfOk result (λ n. IfSome (M.holds image.old) (λ bs. take n bs ≡ front_of bs)) }
+    ensures err { IfErr result (λ s. FrontStop s (M.faults image.old) (M.faults image.new)) }
+    ensures done { OnOk result (M.faults image.new ≡ M.faults image.old) }
+    ensures same { M.holds image.new ≡ M.holds image.old }
+    ensures later { M.faults image.old ≤ M.faults image.new }
 {
-    let mut bytes = bytes;
-    bytes.truncate(bytes.len() / 4096 * 4096);
-    bytes
-}
-
-// The storage that bytes show, with them.
-fn shown_in(alloc: Global, bytes: Vec<u8>) -> Result<Option<HeldStorage>, AllocError>
-    requires { length bytes.items < 2 ^ 32 }
-    ensures { IfOk result (IsShownIn bytes.items) }
-{
-    match storage_in(alloc, &bytes)? {
-        Some(storage) => Ok(Some(HeldStorage { storage, bytes })),
-        None => Ok(None),
+    match image.size() {
+        Ok(has) => Ok((has.min(MOST) / 4096 * 4096) as u32),
+        Err(Failed) => Err(Stop::ImageFault),
     }
 }
 
+// A storage with the bytes of an image that its report needs.
+fn held<M: Load>(
+    alloc: Global,
+    image: &mut M,
+    storage: Storage,
+    total: u32,
+) -> Result<HeldStorage, Stop>
+    requires faultless { size_fault storage.sizes ≡ None }
+    requires inside { IfSome (M.holds image.old) (λ bs. total ≤ length bs) }
+    ensures storage { IfOk result (λ h. h.storage ≡ storage) }
+    ensures shows { IfOk result (λ h. IfSome (M.holds image.old)
+        (λ bs. ShowsTheSame storage (take total bs) h.bytes.items)) }
+    ensures err { IfErr result (λ s. FrontStop s (M.faults image.old) (M.faults image.new)) }
+    ensures same { M.holds image.new ≡ M.holds image.old }
+    ensures later { M.faults image.old ≤ M.faults image.new }
+{
+    few_bytes_are_a_report();
+    let bytes = copy_of(alloc, image, &storage, total)?;
+    Ok(HeldStorage { storage, bytes })
+}
+
+// The storage that all headers show.
+fn shown_by(total: u32, seen: &Seen) -> Option<Storage>
+    ensures shown { (image : List ℕ) → total ≡ length image
+        → machine_by seen.now.order seen.now.shown ≡ machine_of image
+        → seen.now.marks.items ≡ marks_in (order_in image) image → result ≡ storage_in image }
+    ensures faultless { IfSome result (λ s. size_fault s.sizes ≡ None) }
+{
+    storage_by(shown_sizes(total, &seen.marks), seen.machine())
+}
+
 // The storage that the front of an image shows: one dump at least must stand there.
-#[tactic(auto, using(crate::proofs::Fronts::shown_at))]
 fn shown_storage<M: Load>(alloc: Global, image: &mut M) -> Result<Option<HeldStorage>, Stop>
     ensures held { IfOk result (IsHeld (M.holds image.old)) }
     ensures err { IfErr result (λ s. FrontStop s (M.faults image.old) (M.faults image.new)) }
     ensures same { M.holds image.new ≡ M.holds image.old }
     ensures later { M.faults image.old ≤ M.faults image.new }
 {
-    let front = load_front(alloc, image, MOST)?;
-    let held = shown_in(alloc, whole_pages(front))?;
-    Ok(held)
+    let total = front_len(image)?;
+    let seen = scan(alloc, image, total, true)?;
+    let Some(storage) = shown_by(total, &seen) else {
+        return Ok(None);
+    };
+    let held = held(alloc, image, storage, total)?;
+    Ok(Some(held))
 }
 
-// The storage that sizes divide, with its bytes.
-fn divided_in(alloc: Global, sizes: &Sizes, bytes: Vec<u8>) -> Result<HeldStorage, NoStorage>
-    requires { length bytes.items < 2 ^ 32 }
-    ensures { MatchResult result (IsDividedBy sizes.now bytes.items) (IsUndividedBy sizes.now bytes.items) }
+fn sized(total: u32, sizes: &Sizes) -> Sizes
+    ensures { result ≡ sized_by total sizes.now }
 {
-    match storage_of(alloc, sizes, &bytes)? {
-        Ok(storage) => Ok(HeldStorage { storage, bytes }),
-        Err(fault) => Err(NoStorage::Undivided(fault)),
+    Sizes {
+        total: u64::from(total),
+        ..*sizes
     }
 }
 
 // The storage that sizes divide at the front of an image.
-#[tactic(auto, using(crate::proofs::Fronts::divided_at))]
 fn divided_storage<M: Load>(
     alloc: Global,
     sizes: &Sizes,
@@ -75,12 +106,24 @@ fn divided_storage<M: Load>(
     ensures same { M.holds image.new ≡ M.holds image.old }
     ensures later { M.faults image.old ≤ M.faults image.new }
 {
-    let front = load_front(alloc, image, MOST)?;
-    divided_in(alloc, sizes, whole_pages(front))
+    let total = front_len(image)?;
+    let sizes = sized(total, sizes);
+    if let Some(fault) = size_fault(&sizes) {
+        return Err(NoStorage::Undivided(fault));
+    }
+    let seen = scan(alloc, image, total, false)?;
+    let storage = Storage {
+        sizes,
+        machine: seen.machine(),
+        tied: false,
+    };
+    let held = held(alloc, image, storage, total)?;
+    Ok(held)
 }
 
 /// The storage that the front of an image is, in whole pages of 4096 bytes and at most 128 MiB, if such are looked for.
-/// Nothing is read where none is.
+/// Nothing is read where none is. If they are looked for by their dumps, all headers are read; by given sizes only those
+/// before the first dump. Of the zones each front and the logs of the listed records are read, and nothing else is kept.
 pub fn held_storage<M: Load>(
     alloc: Global,
     storages: Storages,

@@ -7,6 +7,7 @@ ghost use Rattle.std.specs.Prelude.{None};
 
 use md5::{Digest, Md5};
 use outside::{Bytes, Calls, Failed, FileLoad, Load, MemSink, MemStore};
+use psz_spec::Sizes;
 use region_report::Report;
 use report_tool::{Folder, Format, save};
 use std::alloc::{AllocError, Global};
@@ -70,6 +71,36 @@ impl Folder for Lines {
         }
         self.faults = self.faults.saturating_add(1);
         Err(Failed)
+    }
+}
+
+/// An image that counts what is read of it.
+#[derive(Drop)]
+struct Counted<M> {
+    image: M,
+    reads: u32,
+    bytes: u64,
+}
+
+impl<M: Load> Load for Counted<M> {
+    ghost holds = { λ s. M.holds s.image };
+
+    ghost faults = { λ s. M.faults s.image };
+
+    ghost writes = { λ s. M.writes s.image };
+
+    ghost read_faults = { λ s. M.read_faults s.image };
+
+    ghost held_bytes = { λ s. M.held_bytes s.image };
+
+    fn size(&mut self) -> Result<u64, Failed> {
+        self.image.size()
+    }
+
+    fn read_at(&mut self, at: u64, into: &mut [u8]) -> Result<(), Failed> {
+        self.reads = self.reads.saturating_add(1);
+        self.bytes = self.bytes.saturating_add(into.len() as u64);
+        self.image.read_at(at, into)
     }
 }
 
@@ -169,6 +200,50 @@ fn show_damaged<R: Print + AllocGlobal>(rt: &R, name: &str, bytes: Vec<u8>) -> i
     show(rt, name, &mut image)
 }
 
+// How much of a storage is read.
+fn show_reads<R: Print + AllocGlobal>(
+    rt: &R,
+    name: &str,
+    storages: Storages,
+    bytes: Vec<u8>,
+) -> io::Result<()> {
+    let bytes = Bytes::from_vec(bytes);
+    if bytes.len() > MOST as usize {
+        return println!(rt; "{name}: too long");
+    }
+    let mut image = Counted {
+        image: MemStore::new(bytes, MOST, Calls::new(rt.alloc(), &[])?)?,
+        reads: 0,
+        bytes: 0,
+    };
+    match held_storage(rt.alloc(), storages, &mut image) {
+        Ok(Some(_)) => println!(rt; "{name}: {} reads, {} bytes", image.reads, image.bytes),
+        Ok(None) | Err(_) => println!(rt; "{name}: no storage"),
+    }
+}
+
+// A storage of 1 MiB that begins so: by its dumps all of it is read, by given sizes a front of it, and in each case the
+// headers and the listed logs.
+fn show_large<R: Print + AllocGlobal>(rt: &R, front: &[u8]) -> io::Result<()> {
+    let alloc = rt.alloc();
+    let zeros = vec![in alloc; 0; MOST as usize]?;
+    let given = Storages::All(Sizes {
+        total: 0,
+        pmsg: 0,
+        console: 0,
+        ftrace: 0,
+        dump: 4096,
+        cpus: 1,
+    });
+    let whole = damaged(alloc, &zeros, MOST as usize, 0, front)?;
+    show_reads(rt, "by its dumps", Storages::Shown, whole)?;
+    let whole = damaged(alloc, &zeros, MOST as usize, 0, front)?;
+    show_reads(rt, "by given sizes", given, whole)?;
+    let whole = damaged(alloc, &zeros, MOST as usize, 0, front)?;
+    let erased = damaged(alloc, &whole, MOST as usize, 4100, b"\x00\x00\x00\x00")?;
+    show_reads(rt, "without an erased dump", given, erased)
+}
+
 fn main(rt: HostRuntime) -> io::Result<()> {
     let alloc = rt.alloc();
     for name in ["stock-64", "stock-32"] {
@@ -197,5 +272,6 @@ fn main(rt: HostRuntime) -> io::Result<()> {
     ] {
         show_damaged(&rt, name, damaged(alloc, &bytes, len, at, with)?)?;
     }
-    show_big(&rt)
+    show_big(&rt)?;
+    show_large(&rt, &bytes)
 }

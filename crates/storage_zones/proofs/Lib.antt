@@ -2,3 +2,4 @@ mod Takes
 mod Numbered
 mod Orders
 mod Lists
+mod FewBytes

@@ -8,7 +8,8 @@ use psz_spec::Machine;
 use std::alloc::{AllocError, Global};
 use storage_spec::Storage;
 
-fn storage_by(shown: Option<Shown>, machine: Machine) -> Option<Storage>
+/// The storage of the sizes that marks show, if a kernel divides a storage by them.
+pub fn storage_by(shown: Option<Shown>, machine: Machine) -> Option<Storage>
     ensures shown { result ≡ storage_with shown machine }
     ensures faultless { IfSome result (λ s. size_fault s.sizes ≡ None) }
 {

@@ -4,14 +4,16 @@
 
 mod contents;
 mod finding;
+mod laws;
 mod listing;
 mod records;
 mod telling;
 mod traces;
 mod zones;
 
-pub use finding::storage_in;
+pub use finding::{storage_by, storage_in};
+pub use laws::few_bytes_are_a_report;
 pub use listing::held_records;
 pub use storage_spec::Storage;
 pub use telling::storage_lines;
-pub use zones::{ZonesRead, read_zones};
+pub use zones::{ZonesRead, lying_zones, read_zones};
