@@ -17,6 +17,7 @@ mod laws;
 mod listed;
 mod logs;
 mod names;
+mod order;
 mod page;
 mod parameters;
 mod picture;
