@@ -6,8 +6,9 @@ use Rattle.std.specs.Prelude.{filter, ⊤, slice_index_or}
 use Rattle.std.specs.List.{AllByRecursion}
 use Rattle.std.specs.Cmp.{IsStrictWeakOrder}
 use Rattle.std.specs.Borrow.{Bor}
-use Rattle.std.specs.List.Sorted.{ties, IsSortedBy, IsStableBy}
-use Rattle.std.proofs.lemmas.List.Sorted.{sorted_far}
+use Rattle.std.specs.List.Sorted.{ties, IsPermutation, IsSortedBy, IsStableBy}
+use Rattle.std.proofs.lemmas.List.Sorted.{sorted_far, IsPermutation-refl, IsPermutation-sym, IsPermutation-cons}
+use Rattle.std.proofs.lemmas.List.Sorted.{IsPermutation-trans, IsPermutation-middle}
 use Rattle.std.proofs.lemmas.List.{get_or-map, length-map}
 use Rattle.std.proofs.lemmas.Bool.Decides.{nat_tests}
 use Rattle.zone_spec.specs.declared.Time.{Time}
@@ -56,10 +57,11 @@ module _ {X : Type 0} (lt : X → X → Bool) (o : IsStrictWeakOrder lt) where
 
   down-from : (xs : List X) → IsSortedBy lt xs → IsDown xs
   down-from [] up = tt
-  down-from (x ∷ xs) up =
-      (all-after xs (λ j d h. sorted_far lt o (x ∷ xs) up 0 (suc j) d (omega arith) (omega (arith, h))),
-      down-from xs (λ k d le h. subst (λ (n : ℕ). lt (slice_index_or (x ∷ xs) n d) (slice_index_or xs k d) ≡ false)
-      (let e : suc k + 1 ≡ suc (k + 1) = omega arith in e) (up (suc k) d (omega arith) (omega (arith, h)))))
+  down-from (x ∷ xs) up = (
+    all-after xs (λ j d h. sorted_far lt o (x ∷ xs) up 0 (suc j) d (omega arith) (omega (arith, h))),
+    down-from xs (λ k d le h. subst (λ (n : ℕ). lt (slice_index_or (x ∷ xs) n d) (slice_index_or xs k d) ≡ false)
+        (let e : suc k + 1 ≡ suc (k + 1) = omega arith in e) (up (suc k) d (omega arith) (omega (arith, h)))),
+  )
     where
       all-after : (ys : List X) → ((j : ℕ) (d : X) → j < length ys → lt (slice_index_or ys j d) x ≡ false)
           → AllByRecursion (λ y. lt y x ≡ false) ys
@@ -104,6 +106,35 @@ module _ {X : Type 0} (lt : X → X → Bool) (o : IsStrictWeakOrder lt) where
   stable-order x (y ∷ ys) =
       stable-put x y (in_order lt ys)
       ∙ ap (λ (more : List X). cond (ties lt x y) (y ∷ more) more) (stable-order x ys)
+
+  sorted-from : (xs : List X) → IsDown xs → IsSortedBy lt xs
+  sorted-from [] down k d le h = absurd (omega (arith, h))
+  sorted-from (x ∷ []) down k d le h = absurd (omega (arith, h))
+  sorted-from (x ∷ y ∷ ys) down zero d le h = down.0.0
+  sorted-from (x ∷ y ∷ ys) down (suc k) d le h =
+      subst (λ (n : ℕ). lt (slice_index_or (x ∷ y ∷ ys) n d) (slice_index_or (y ∷ ys) k d) ≡ false)
+      (let e : suc (k + 1) ≡ suc k + 1 = omega arith in e)
+      (sorted-from (y ∷ ys) down.1 k d (omega arith) (omega (arith, h)))
+
+  moved-put : (x : X) (ys : List X) → IsPermutation (x ∷ ys) (put_in lt x ys)
+  unfolding put_in
+  moved-put x [] = IsPermutation-refl (x ∷ [])
+  moved-put x (y ∷ ys) = by (moved-put x ys) (lt y x)
+    where
+      by : IsPermutation (x ∷ ys) (put_in lt x ys) → (t : Bool)
+          → IsPermutation (x ∷ y ∷ ys) (cond t (y ∷ put_in lt x ys) (x ∷ y ∷ ys))
+      by more true =
+          IsPermutation-trans (x ∷ y ∷ ys) (y ∷ x ∷ ys) (y ∷ put_in lt x ys)
+          (IsPermutation-sym (y ∷ x ∷ ys) (x ∷ y ∷ ys) (IsPermutation-middle (y ∷ []) x ys))
+          (IsPermutation-cons y (x ∷ ys) (put_in lt x ys) more)
+      by more false = IsPermutation-refl (x ∷ y ∷ ys)
+
+  moved-order : (xs : List X) → IsPermutation xs (in_order lt xs)
+  unfolding in_order
+  moved-order [] = IsPermutation-refl []
+  moved-order (x ∷ xs) =
+      IsPermutation-trans (x ∷ xs) (x ∷ in_order lt xs) (put_in lt x (in_order lt xs))
+      (IsPermutation-cons x xs (in_order lt xs) (moved-order xs)) (moved-put x (in_order lt xs))
 
   -- ---- one order
 
@@ -198,6 +229,22 @@ times-rank =
       one_way = λ a b e. one-way a.now.time b.now.time e;
       chain = λ a b c e f. chain a.now.time b.now.time c.now.time e f;
     }
+
+records-rank : IsStrictWeakOrder goes_before
+records-rank =
+    record {
+      one_way = λ a b e. one-way a.time b.time e;
+      chain = λ a b c e f. chain a.time b.time c.time e f;
+    }
+
+pub newest-moved : (rs : List RecordShown) → IsPermutation rs (newest_first rs)
+newest-moved rs = moved-order goes_before records-rank rs
+
+pub newest-sorted : (rs : List RecordShown) → IsSortedBy goes_before (newest_first rs)
+newest-sorted rs = sorted-from goes_before records-rank (newest_first rs) (down-order goes_before records-rank rs)
+
+pub newest-stable : (rs : List RecordShown) → IsStableBy goes_before rs (newest_first rs)
+newest-stable rs x = stable-order goes_before records-rank x rs
 
 put-shown : (r : Bor RecordShown) (rs : List (Bor RecordShown))
     → shown_in (put_in before_in r rs) ≡ put_in goes_before r.now (shown_in rs)

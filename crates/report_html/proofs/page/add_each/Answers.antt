@@ -18,8 +18,7 @@ loop-place-preserved c =
     let held = c.index-records-place.result in
     let is = shown-at c.args.records.now c.loop-place.place held c.loop-place-test.true c.index-records-place.is in
     let len = shown-len c.args.records.now in
-    let past = c.loop-place-test.true in
-    (
+    let past = c.loop-place-test.true in (
       listed_on (saved c.args.logs.now) c.are_grouped-grouped.result c.args.number c.loop-place.before
           c.group_in-group.result c.args.teller c.is_some.result
           c.is_unfolded-is_open.result c.is_teller-tells.result records c.loop-place.place held.now
