@@ -648,10 +648,13 @@ stamp-bytes text line h = by (nat_lt line.stamp line.caller)
 
 joins-machine : (m : MachineTold) → AreMachineBytes m → Joins (machine_bytes m)
 joins-machine m h =
-    joins-and (some_bytes m.hardware ++ some_bytes m.modules ++ some_bytes m.version) (some_bytes m.cmdline)
+    joins-and (some_bytes m.hardware ++ some_bytes m.modules ++ some_bytes m.version ++ some_bytes m.offset)
+    (some_bytes m.cmdline)
+    (joins-and (some_bytes m.hardware ++ some_bytes m.modules ++ some_bytes m.version) (some_bytes m.offset)
     (joins-and (some_bytes m.hardware ++ some_bytes m.modules) (some_bytes m.version)
     (joins-and (some_bytes m.hardware) (some_bytes m.modules) (joins-some m.hardware h.hardware)
-    (joins-some m.modules h.modules)) (joins-some m.version h.version)) (joins-some m.cmdline h.cmdline)
+    (joins-some m.modules h.modules)) (joins-some m.version h.version)) (joins-some m.offset h.offset))
+    (joins-some m.cmdline h.cmdline)
 
 joins-before : (before : Option DeathTold) → TellsBytes before → Joins (before_bytes before)
 joins-before None h = joins-none

@@ -44,6 +44,7 @@ pub record AreMachineBytes (m : MachineTold) : Type 0 where
   pub hardware : AreBytes m.hardware
   pub modules : AreBytes m.modules
   pub version : AreBytes m.version
+  pub offset : AreBytes m.offset
   pub cmdline : AreBytes m.cmdline
 
 -- all that is shown of a log's end are bytes
