@@ -8,7 +8,7 @@ use Rattle.std.proofs.Common.{w64}
 use Rattle.zone_spec.specs.Ftrace.{entries, entry_time}
 use Rattle.symbol_spec.specs.declared.Symbol.{Symbol}
 use Rattle.symbol_spec.specs.Maps.{name_at, module_at}
-use Rattle.symbol_spec.specs.Functions.{function_of}
+use Rattle.symbol_spec.specs.Shifts.{function_above}
 
 -- ---- numbers
 
@@ -41,20 +41,21 @@ abbrev pub module_text : List ℕ → Option Symbol → List ℕ
 module_text map None = []
 module_text map (Some s) = spaced (module_at map s.name)
 
--- the function of an address (`%ps`); without one the kernel shows the address
-unfoldable pub function_text : List ℕ → ℕ → List ℕ
-function_text map address =
-    bare_text map address (function_of map address) ++ module_text map (function_of map address)
+-- the function of an address (`%ps`) of a kernel that runs so far above the map; without one the kernel shows the address
+unfoldable pub function_text : List ℕ → (shift address : ℕ) → List ℕ
+function_text map shift address =
+    bare_text map address (function_above map shift address) ++ module_text map (function_above map shift address)
 
 abbrev pub offset_text : ℕ → Option Symbol → List ℕ
 offset_text address None = []
 offset_text address (Some s) = codes "+0x" ++ hexadecimal 1 (address - s.address)
 
 -- also how far behind its beginning the address is (`%pS`, without the function's size)
-unfoldable pub place_text : List ℕ → ℕ → List ℕ
-place_text map address =
-    bare_text map address (function_of map address) ++ offset_text address (function_of map address)
-    ++ module_text map (function_of map address)
+unfoldable pub place_text : List ℕ → (shift address : ℕ) → List ℕ
+place_text map shift address =
+    bare_text map address (function_above map shift address)
+    ++ offset_text (address - shift) (function_above map shift address)
+    ++ module_text map (function_above map shift address)
 
 -- ---- entries
 
@@ -67,14 +68,15 @@ head_by address parent processor time =
     codes "CPU:" ++ decimal processor ++ codes " ts:" ++ decimal time ++ codes " " ++ hexadecimal 8 address
     ++ codes "  " ++ hexadecimal 8 parent ++ codes "  "
 
-abbrev pub line_by : List ℕ → ℕ → ℕ → ℕ → ℕ → List ℕ
-line_by map address parent processor time =
-    head_by address parent processor time ++ function_text map address ++ codes " <- " ++ place_text map parent
-    ++ 10 ∷ []
+abbrev pub line_by : List ℕ → ℕ → ℕ → ℕ → ℕ → ℕ → List ℕ
+line_by map shift address parent processor time =
+    head_by address parent processor time ++ function_text map shift address ++ codes " <- "
+    ++ place_text map shift parent ++ 10 ∷ []
 
-abbrev pub line_text : List ℕ → List ℕ → List ℕ
-line_text map entry = line_by map (word_of entry 0) (word_of entry 8) (word_of entry 16 % 256) (entry_time entry)
+abbrev pub line_text : List ℕ → ℕ → List ℕ → List ℕ
+line_text map shift entry =
+    line_by map shift (word_of entry 0) (word_of entry 8) (word_of entry 16 % 256) (entry_time entry)
 
--- the lines of a log's entries
-unfoldable pub trace_text : List ℕ → List ℕ → List ℕ
-trace_text map log = flat_map (line_text map) (entries log)
+-- the lines of a log's entries, with the functions of a map, above which the kernel ran so far
+unfoldable pub trace_text : List ℕ → ℕ → List ℕ → List ℕ
+trace_text map shift log = flat_map (line_text map shift) (entries log)

@@ -22,6 +22,6 @@ third : (e : Entry) → e.word < 2 ^ 64 → word_of (entry_bytes e) 16 ≡ e.wor
 unfolding entry_bytes
 third e small = from_le_bytes-to_le_bytes_8 e.word small
 
-pub line_of_entry : (names : List ℕ) (e : Entry) → e.addr < 2 ^ 64 → e.parent < 2 ^ 64 → e.word < 2 ^ 64
-    → line_by names e.addr e.parent (e.word % 256) (e.word / 256) ≡ line_text names (entry_bytes e)
-line_of_entry names e a p w = rw (first e a, second e p, third e w) refl
+pub line_of_entry : (names : List ℕ) (shift : ℕ) (e : Entry) → e.addr < 2 ^ 64 → e.parent < 2 ^ 64 → e.word < 2 ^ 64
+    → line_by names shift e.addr e.parent (e.word % 256) (e.word / 256) ≡ line_text names shift (entry_bytes e)
+line_of_entry names shift e a p w = rw (first e a, second e p, third e w) refl

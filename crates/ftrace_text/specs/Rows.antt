@@ -25,11 +25,11 @@ notice = 10 ∷ codes "ECC: No errors detected" ++ 10 ∷ []
 -- the lines of each, by the form that it shows
 abbrev pub OneEntry : Type 0
 OneEntry =
-    (trace_text [] (trace_of Little None (arm_log ∷ []))
+    (trace_text [] 0 (trace_of Little None (arm_log ∷ []))
     ≡ codes "CPU:0 ts:0 c020fa34  c020fd28  0xc020fa34 <- 0xc020fd28" ++ 10 ∷ [])
-    × (trace_text [] (trace_of Big None (mips_log ∷ []))
+    × (trace_text [] 0 (trace_of Big None (mips_log ∷ []))
     ≡ codes "CPU:0 ts:0 80219d28  8021a0a0  0x80219d28 <- 0x8021a0a0" ++ 10 ∷ [])
-    × (trace_text [] (trace_of Little None (arm64_log ∷ []))
+    × (trace_text [] 0 (trace_of Little None (arm64_log ∷ []))
     ≡ codes "CPU:0 ts:0 ffff800080130874  ffff800080130b60  0xffff800080130874 <- 0xffff800080130b60" ++ 10 ∷ [])
     × (trace_of Little None (arm64_log ∷ []) ≡ arm64_log)
 
@@ -37,11 +37,11 @@ OneEntry =
 -- lines that Linux showed on MIPS and on arm64
 abbrev pub KernelsLines : Type 0
 KernelsLines =
-    (trace_text [] (trace_by Big Short ((mips_log ++ notice) ∷ []))
+    (trace_text [] 0 (trace_by Big Short ((mips_log ++ notice) ∷ []))
     ≡ codes "CPU:32 ts:19495729410100847 00000000  0000000a  0x0 <- 0xa" ++ 10
     ∷ codes "CPU:10 ts:28556951456867684 6572726f  72732064  0x6572726f <- 0x72732064" ++ 10
     ∷ [])
-    × (trace_text [] (trace_by Little Long ((arm64_log ++ notice) ∷ []))
+    × (trace_text [] 0 (trace_by Little Long ((arm64_log ++ notice) ∷ []))
     ≡ codes "CPU:0 ts:2814749767106560 60ffff8000801308  ffff800080130b  0x60ffff8000801308 <- 0xffff800080130b" ++ 10
     ∷ codes "CPU:101 ts:2925136674252148 206f4e203a434345  642073726f727265  0x206f4e203a434345 <- 0x642073726f727265"
     ++ 10 ∷ [])

@@ -66,10 +66,15 @@ fn push_module(
 
 /// Appends the function of an address, with its module, or the address.
 #[tactic(auto, unfolding(ftrace_spec::specs::Lines::function_text))]
-fn push_function(out: &mut Vec<u8>, symbols: &Symbols, address: u64) -> Result<(), AllocError>
-    ensures { OnOk result (out.new.items ≡ out.old.items ++ function_text symbols.now address) }
+fn push_function(
+    out: &mut Vec<u8>,
+    symbols: &Symbols,
+    shift: u64,
+    address: u64,
+) -> Result<(), AllocError>
+    ensures { OnOk result (out.new.items ≡ out.old.items ++ function_text symbols.now shift address) }
 {
-    let symbol = symbols.function_at(address);
+    let symbol = symbols.function_above(shift, address);
     push_bare(out, symbols, address, symbol)?;
     push_module(out, symbols, symbol)
 }
@@ -87,12 +92,17 @@ fn push_offset(out: &mut Vec<u8>, address: u64, symbol: Option<Symbol>) -> Resul
 }
 
 #[tactic(auto, unfolding(ftrace_spec::specs::Lines::place_text))]
-fn push_place(out: &mut Vec<u8>, symbols: &Symbols, address: u64) -> Result<(), AllocError>
-    ensures { OnOk result (out.new.items ≡ out.old.items ++ place_text symbols.now address) }
+fn push_place(
+    out: &mut Vec<u8>,
+    symbols: &Symbols,
+    shift: u64,
+    address: u64,
+) -> Result<(), AllocError>
+    ensures { OnOk result (out.new.items ≡ out.old.items ++ place_text symbols.now shift address) }
 {
-    let symbol = symbols.function_at(address);
+    let symbol = symbols.function_above(shift, address);
     push_bare(out, symbols, address, symbol)?;
-    push_offset(out, address, symbol)?;
+    push_offset(out, address.saturating_sub(shift), symbol)?;
     push_module(out, symbols, symbol)
 }
 
@@ -120,42 +130,59 @@ fn push_head(
 fn push_words(
     out: &mut Vec<u8>,
     symbols: &Symbols,
+    shift: u64,
     address: u64,
     parent: u64,
     word: u64,
 ) -> Result<(), AllocError>
     ensures { OnOk result (out.new.items ≡ out.old.items
-        ++ line_by symbols.now address parent (word % 256) (word / 256)) }
+        ++ line_by symbols.now shift address parent (word % 256) (word / 256)) }
 {
     push_head(out, address, parent, word % 256, word >> 8)?;
-    push_function(out, symbols, address)?;
+    push_function(out, symbols, shift, address)?;
     push(out, b" <- ")?;
-    push_place(out, symbols, parent)?;
+    push_place(out, symbols, shift, parent)?;
     push(out, b"\n")
 }
 
-fn push_line(out: &mut Vec<u8>, symbols: &Symbols, entry: &Entry) -> Result<(), AllocError>
-    ensures { OnOk result (out.new.items ≡ out.old.items ++ line_text symbols.now (entry_bytes entry.now)) }
+fn push_line(
+    out: &mut Vec<u8>,
+    symbols: &Symbols,
+    shift: u64,
+    entry: &Entry,
+) -> Result<(), AllocError>
+    ensures { OnOk result (out.new.items ≡ out.old.items ++ line_text symbols.now shift (entry_bytes entry.now)) }
 {
-    push_words(out, symbols, entry.addr, entry.parent, entry.word)
+    push_words(out, symbols, shift, entry.addr, entry.parent, entry.word)
 }
 
-fn lines_of(alloc: Global, symbols: &Symbols, entries: &[Entry]) -> Result<Vec<u8>, AllocError>
-    ensures { IfOk result (λ text. text.items ≡ flat_map (line_text symbols.now) (map entry_bytes entries.now)) }
+fn lines_of(
+    alloc: Global,
+    symbols: &Symbols,
+    shift: u64,
+    entries: &[Entry],
+) -> Result<Vec<u8>, AllocError>
+    ensures { IfOk result (λ text.
+        text.items ≡ flat_map (line_text symbols.now shift) (map entry_bytes entries.now)) }
 {
     let mut out = Vec::new(alloc);
     for entry in entries {
-        push_line(&mut out, symbols, entry)?;
+        push_line(&mut out, symbols, shift, entry)?;
     }
     Ok(out)
 }
 
-/// The lines of the entries of a log, with the functions of a map. An address that is of no function of the map is
-/// shown in its place. Takes time linear in the log.
+/// The lines of the entries of a log, with the functions of a map, above which the kernel ran so far. An address that is
+/// of no function of the map is shown in its place. Takes time linear in the log.
 #[tactic(auto, unfolding(ftrace_spec::specs::Lines::trace_text))]
-pub fn trace_text(alloc: Global, log: &[u8], symbols: &Symbols) -> Result<Vec<u8>, AllocError>
-    ensures { IfOk result (λ text. text.items ≡ text_of symbols.now log.now) }
+pub fn trace_text(
+    alloc: Global,
+    log: &[u8],
+    symbols: &Symbols,
+    shift: u64,
+) -> Result<Vec<u8>, AllocError>
+    ensures { IfOk result (λ text. text.items ≡ text_of symbols.now shift log.now) }
 {
     let all = entries(alloc, log)?;
-    lines_of(alloc, symbols, all.as_slice())
+    lines_of(alloc, symbols, shift, all.as_slice())
 }

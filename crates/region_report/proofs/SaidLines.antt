@@ -3,7 +3,7 @@ use Rattle.std.proofs.Common.{◌≡◌, ℕ, nat_eq, true, false, cond, List, [
 use Rattle.std.specs.List.{starts_with}
 use Rattle.death_spec.specs.declared.Line.{Line}
 use Rattle.death_spec.specs.Lines.{part, said}
-use Rattle.report_spec.specs.Facts.{said_after}
+use Rattle.report_spec.specs.Said.{said_after}
 
 pub says_here : (text words : List ℕ) (line : Line) (lines : List Line)
     → starts_with nat_eq (said text line) words ≡ true

@@ -8,4 +8,5 @@ as_machine m = record {
   modules = m.modules.now;
   cmdline = m.cmdline.now;
   version = m.version.now;
+  offset = m.offset.now;
 }

@@ -3,7 +3,8 @@ ghost use Rattle.std.specs.Prelude.{◌≡◌, ◌<◌, nat_eq, IfOk};
 ghost use Rattle.std.specs.List.{starts_with};
 ghost use Rattle.std.specs.Option.{option_copied};
 ghost use Rattle.death_spec.specs.Lines.{lines_from};
-ghost use Rattle.report_spec.specs.Facts.{said_after as said_after_words, or_bytes, machine_in, machine_or};
+ghost use Rattle.report_spec.specs.Said.{said_after as said_after_words};
+ghost use Rattle.report_spec.specs.Facts.{or_bytes, machine_in, machine_or};
 ghost use Rattle.report_spec.specs.Facts.{model_in, shared_text as text_shared, machine_of, machine_ended};
 ghost use Rattle.report_spec.specs.Facts.{signature_told};
 ghost use Rattle.region_report.specs.Machines.{as_machine};
@@ -25,6 +26,8 @@ pub struct Machine<'a> {
     pub modules: &'a [u8],
     pub cmdline: &'a [u8],
     pub version: &'a [u8],
+    /// As `0x2ee00000 from 0xffffffff81000000`, or `disabled`.
+    pub offset: &'a [u8],
 }
 
 #[tactic(auto, using(std::proofs::lemmas::Str::Ascii::trim_ascii_start_is))]
@@ -83,8 +86,8 @@ fn begins(text: &[u8], words: &[u8]) -> bool
     text.starts_with(words)
 }
 
-// What follows these words in the first line from a place on in which the kernel says them.
-fn said_after<'a>(text: &'a [u8], words: &[u8], at: usize) -> &'a [u8]
+/// What follows these words in the first line from a place on in which the kernel says them.
+pub fn said_after<'a>(text: &'a [u8], words: &[u8], at: usize) -> &'a [u8]
     ensures { result.now ≡ said_after_words text.entry.now words.now (lines_from text.entry.now at) }
 {
     let mut place = at;
@@ -128,6 +131,7 @@ fn machine_in(text: &[u8], at: usize) -> Machine<'_>
             said_after(text, b"Command line: ", 0),
         ),
         version: said_after(text, b"Linux version ", 0),
+        offset: said_after(text, b"Kernel Offset: ", at),
     }
 }
 
@@ -139,6 +143,7 @@ fn machine_or<'a>(machine: Machine<'a>, other: Machine<'a>) -> Machine<'a>
         modules: or_bytes(machine.modules, other.modules),
         cmdline: or_bytes(machine.cmdline, other.cmdline),
         version: or_bytes(machine.version, other.version),
+        offset: or_bytes(machine.offset, other.offset),
     }
 }
 

@@ -12,6 +12,7 @@ mod moments;
 mod naming;
 mod newest;
 mod report;
+mod shifts;
 mod shown;
 mod traced;
 mod warnings;

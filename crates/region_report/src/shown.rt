@@ -2,9 +2,10 @@
 ghost use Rattle.std.specs.Prelude.{◌≡◌, IfOk};
 ghost use Rattle.report_spec.specs.declared.Packing.TheVariants.{Part};
 ghost use Rattle.report_spec.specs.Packed.{most_of, as_it_stands, as_listed, as_traced, inflated, IsUnpacked, IsShown};
-ghost use Rattle.report_spec.specs.Packed.{AreShown, readable, readable_of, said, said_of};
+ghost use Rattle.report_spec.specs.Packed.{AreShownBy, AreShown, readable, readable_of, said, said_of};
 ghost use Rattle.report_spec.specs.Newest.{has_entries};
 
+use crate::shifts::shift_in;
 use ftrace_text::trace_text;
 use inflate::{InflateError, Inflated, inflate};
 use outside::Bytes;
@@ -197,10 +198,15 @@ fn unpacked(
 }
 
 /// An ftrace log, as the kernel shows it.
-fn as_traced(alloc: Global, symbols: &Symbols, held: HeldRecord) -> Result<RecordReport, AllocError>
-    ensures { IfOk result (λ r. r ≡ as_traced symbols.now held) }
+fn as_traced(
+    alloc: Global,
+    symbols: &Symbols,
+    shift: u64,
+    held: HeldRecord,
+) -> Result<RecordReport, AllocError>
+    ensures { IfOk result (λ r. r ≡ as_traced symbols.now shift held) }
 {
-    let text = trace_text(alloc, held.content(), symbols)?;
+    let text = trace_text(alloc, held.content(), symbols, shift)?;
     Ok(RecordReport {
         name: held.name,
         time: held.time,
@@ -216,9 +222,10 @@ fn shown(
     alloc: Global,
     zones: &[Zone],
     symbols: &Symbols,
+    shift: u64,
     held: HeldRecord,
 ) -> Result<RecordReport, AllocError>
-    ensures { IfOk result (λ r. IsShown zones.now symbols.now held r) }
+    ensures { IfOk result (λ r. IsShown zones.now symbols.now shift held r) }
 {
     match held.name {
         Name::Dump {
@@ -229,11 +236,28 @@ fn shown(
             Ok(as_it_stands(alloc, held, Packing::Plain))
         }
         Name::Pmsg => as_listed(alloc, held),
-        Name::Ftrace => as_traced(alloc, symbols, held),
+        Name::Ftrace => as_traced(alloc, symbols, shift, held),
     }
 }
 
-/// The records of a layout's zones as they are shown with the functions of a map, in order. Takes time linear in their bytes and texts.
+fn shown_by(
+    alloc: Global,
+    zones: &[Zone],
+    symbols: &Symbols,
+    shift: u64,
+    records: Vec<HeldRecord>,
+) -> Result<Vec<RecordReport>, AllocError>
+    ensures { IfOk result (λ all. AreShownBy zones.now symbols.now shift records.items all.items) }
+{
+    let mut all = Vec::with_capacity(alloc, records.len())?;
+    for held in records {
+        all.push(shown(alloc, zones, symbols, shift, held)?)?;
+    }
+    Ok(all)
+}
+
+/// The records of a layout's zones as they are shown with the functions of a map, in order. A kernel that ran above the map,
+/// as the console says, has its functions by that. Takes time linear in their bytes and texts.
 pub fn shown_records(
     alloc: Global,
     zones: &[Zone],
@@ -242,9 +266,6 @@ pub fn shown_records(
 ) -> Result<Vec<RecordReport>, AllocError>
     ensures { IfOk result (λ all. AreShown zones.now symbols.now records.items all.items) }
 {
-    let mut all = Vec::with_capacity(alloc, records.len())?;
-    for held in records {
-        all.push(shown(alloc, zones, symbols, held)?)?;
-    }
-    Ok(all)
+    let shift = shift_in(symbols, &records);
+    shown_by(alloc, zones, symbols, shift, records)
 }

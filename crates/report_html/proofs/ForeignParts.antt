@@ -5,7 +5,7 @@ use Rattle.std.proofs.Common.{if◌then◌else◌, append_assoc, refl, sym, ap, 
 use Rattle.std.specs.Prelude.{⊤, filter, flat_map}
 use Rattle.std.specs.List.{fold, list_any, zip, prefix_len}
 use Rattle.std.specs.Char.{is_ascii_whitespace}
-use Rattle.std.specs.Option.{option_map}
+use Rattle.std.specs.Option.{option_map, is_some}
 use Rattle.std.proofs.lemmas.Bool.{cases_order}
 use Rattle.std.proofs.lemmas.List.Elements.{All-cons, All-nil}
 use Rattle.std.proofs.lemmas.List.Concat.{flat_map-append}
@@ -71,7 +71,8 @@ use Rattle.report_html.specs.Causes.{causes_parts, line_bytes, lines_of, causes_
 use Rattle.report_html.specs.Parameters.{parameters_parts}
 use Rattle.report_html.specs.declared.style.TheConstants.{STYLE}
 use Rattle.report_html.specs.declared.words.TheConstants.{HEAD, NAVIGATION, END, KEY, ZONES, STRIP, READ, TOLD}
-use Rattle.report_html.specs.Groups.{are_grouped, group_in, is_same, end_parts, begin_parts, edge_parts}
+use Rattle.report_html.specs.Groups.{are_grouped, group_in, is_same, end_parts, newest_words, older_parts, begin_parts}
+use Rattle.report_html.specs.Groups.{edge_parts}
 use Rattle.report_html.specs.Pages.{time_parts, packing_parts, content_parts, summary_parts, record_parts, listed_parts}
 use Rattle.report_html.specs.Pages.{records_after, list_parts, records_opening, named_parts, name_bytes}
 use Rattle.report_html.specs.Pages.{heading_parts, page_with, page_parts}
@@ -82,7 +83,9 @@ use Rattle.region_report.specs.Warned.{warnings_by}
 use Rattle.report_html.specs.Warnings.{warning_parts, warnings_parts}
 use Rattle.report_html.specs.Escaping.{foreign_in, foreign_of, HoldBytes, TellsBytes, EndsBytes, AreMachineBytes}
 use Rattle.report_html.specs.Escaping.{AreDeathBytes, AllTellBytes, foreign_by, IsWithoutMarkup}
+use Rattle.report_html.specs.Order.{newest_first}
 use Rattle.report_html.proofs.Texts.{is-text}
+use Rattle.report_html.proofs.NewestFirst.{held-in-order}
 
 both : (a b : List Part) → foreign_of (a ++ b) ≡ foreign_of a ++ foreign_of b
 both a b = flat_map-append foreign_in a b
@@ -293,29 +296,29 @@ of-end : (group : Option ℕ) → foreign_of (end_parts group) ≡ []
 of-end None = refl
 of-end (Some g) = refl
 
-of-begin : (number group : Option ℕ) → foreign_of (begin_parts number group) ≡ []
-of-begin number None = refl
-of-begin number (Some g) = refl
+of-begin : (is_open : Bool) (group : Option ℕ) → foreign_of (begin_parts is_open group) ≡ []
+of-begin is_open None = refl
+of-begin is_open (Some g) = of-choice (g == 0) (Words (newest_words is_open) ∷ []) (older_parts g) refl refl
 
-of-edge : (number before after : Option ℕ) → foreign_of (edge_parts number before after) ≡ []
-of-edge number before after =
-    of-choice (is_same before after) [] (end_parts before ++ begin_parts number after) refl
+of-edge : (is_open : Bool) (before after : Option ℕ) → foreign_of (edge_parts is_open before after) ≡ []
+of-edge is_open before after =
+    of-choice (is_same before after) [] (end_parts before ++ begin_parts is_open after) refl
     (simp (both, of-end, of-begin))
 
-of-records : (zones : List Saved) (grouped : Bool) (number : Option ℕ) (teller : Option Name) (before : Option ℕ)
-    (rs : List RecordShown)
-    → foreign_of (records_after zones grouped number teller before rs) ≡ flat_map (record_bytes teller) rs
+of-records : (zones : List Saved) (grouped : Bool) (number : Option ℕ) (teller : Option Name) (place : ℕ)
+    (before : Option ℕ) (rs : List RecordShown)
+    → foreign_of (records_after zones grouped number teller place before rs) ≡ flat_map (record_bytes teller) rs
 unfolding records_after
-of-records zones grouped number teller before [] = of-edge number before None
-of-records zones grouped number teller before (r ∷ rs) =
-    let here : Option ℕ = group_in grouped r.name in
-    let edge : List Part = edge_parts number before here in
+of-records zones grouped number teller place before [] = of-edge (is_some number) before None
+of-records zones grouped number teller place before (r ∷ rs) =
+    let here : Option ℕ = group_in grouped place r.name in
+    let edge : List Part = edge_parts (is_some number) before here in
     let own : List Part = listed_parts zones number teller r in
-    let rest : List Part = records_after zones grouped number teller here rs in
+    let rest : List Part = records_after zones grouped number teller (place + 1) here rs in
     and-of (edge ++ own) rest (record_bytes teller r) (flat_map (record_bytes teller) rs)
-    (and-of edge own [] (record_bytes teller r) (of-edge number before here)
+    (and-of edge own [] (record_bytes teller r) (of-edge (is_some number) before here)
     (of-record zones (is_unfolded number r.name) teller r))
-    (of-records zones grouped number teller here rs)
+    (of-records zones grouped number teller (place + 1) here rs)
 
 -- ---- why the machine died has parts of the text that tells it
 
@@ -547,13 +550,14 @@ of-page title p zones report signature told =
     let died : List Part = died_parts signature (saved report.logs) report.records told in
     let opened : List Part = records_opening (length report.records) in
     let causes : List Part = causes_parts report.records in
-    let records : List Part = list_parts zones report told in
+    let records : List Part = list_parts report told in
+    let ordered : List RecordShown = newest_first report.records in
     let drawn : List Part = picture zones report in
     let w : List (List ℕ) = title ∷ name_bytes signature told ++ title ∷ why_bytes told in
     let d : List (List ℕ) = died_bytes signature report.records told in
     let l : List (List ℕ) = causes_bytes report.records in
     let teller : Option Name = teller_name told in
-    let m : List (List ℕ) = flat_map (record_bytes teller) report.records in
+    let m : List (List ℕ) = flat_map (record_bytes teller) ordered in
     let number : Option ℕ = unfolded (newest report.records) told in
     and-none (opening ++ warned ++ died ++ opened ++ causes ++ records ++ drawn ++ parameters_parts p)
     (Words END.now ∷ []) (w ++ d ++ l ++ m)
@@ -566,7 +570,7 @@ of-page title p zones report signature told =
     (and-of (opening ++ warned) died w d
     (and-none opening warned w (of-opening title signature report.records told)
     (of-warnings report told)) (of-died signature (saved report.logs) report.records told)) refl) (of-causes (crashes_of report.records)))
-    (of-records (saved report.logs) (are_grouped zones) number teller None report.records)) (of-picture zones report))
+    (of-records (saved report.logs) (are_grouped ordered) number teller 0 None ordered)) (of-picture zones report))
     (of-parameters p)) refl
 
 -- ---- each of them is escaped to text
@@ -644,10 +648,13 @@ stamp-bytes text line h = by (nat_lt line.stamp line.caller)
 
 joins-machine : (m : MachineTold) → AreMachineBytes m → Joins (machine_bytes m)
 joins-machine m h =
-    joins-and (some_bytes m.hardware ++ some_bytes m.modules ++ some_bytes m.version) (some_bytes m.cmdline)
+    joins-and (some_bytes m.hardware ++ some_bytes m.modules ++ some_bytes m.version ++ some_bytes m.offset)
+    (some_bytes m.cmdline)
+    (joins-and (some_bytes m.hardware ++ some_bytes m.modules ++ some_bytes m.version) (some_bytes m.offset)
     (joins-and (some_bytes m.hardware ++ some_bytes m.modules) (some_bytes m.version)
     (joins-and (some_bytes m.hardware) (some_bytes m.modules) (joins-some m.hardware h.hardware)
-    (joins-some m.modules h.modules)) (joins-some m.version h.version)) (joins-some m.cmdline h.cmdline)
+    (joins-some m.modules h.modules)) (joins-some m.version h.version)) (joins-some m.offset h.offset))
+    (joins-some m.cmdline h.cmdline)
 
 joins-before : (before : Option DeathTold) → TellsBytes before → Joins (before_bytes before)
 joins-before None h = joins-none
@@ -867,7 +874,8 @@ without_markup title p zones report page bytes hold tells is =
           (joins-onto title (name_bytes signature told) bytes (joins-name signature report.records told tells))
           (joins-onto title (why_bytes told) bytes (joins-why signature report.records told tells)))
           (joins-died signature report.records told tells)) (joins-causes report.records hold)
-          (flat_map (record_bytes (teller_name told)) report.records) (texts-of (teller_name told) report.records hold));
+          (flat_map (record_bytes (teller_name told)) (newest_first report.records))
+          (texts-of (teller_name told) (newest_first report.records) (held-in-order report.records hold)));
     }
 
 -- ---- what people read of records are bytes

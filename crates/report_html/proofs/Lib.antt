@@ -13,6 +13,7 @@ pub mod PictureZones
 pub mod RowsOfZones
 pub mod LogLines
 pub mod RecordGroups
+pub mod NewestFirst
 pub mod Earlier
 pub mod DamagedSpots
 pub mod Rows

@@ -12,6 +12,7 @@ use Rattle.report_html.specs.Before.{told_before}
 use Rattle.report_html.specs.Died.{why_bytes, died_bytes}
 use Rattle.report_html.specs.Causes.{causes_bytes}
 use Rattle.report_html.specs.Listed.{teller_name, record_bytes}
+use Rattle.report_html.specs.Order.{newest_first}
 use Rattle.report_html.specs.Pages.{name_bytes}
 use Rattle.report_html.specs.Pieces.{Part, Words, Count, Bytes, Moment, Long, Log, Named, Link, parts_text}
 
@@ -43,6 +44,7 @@ pub record AreMachineBytes (m : MachineTold) : Type 0 where
   pub hardware : AreBytes m.hardware
   pub modules : AreBytes m.modules
   pub version : AreBytes m.version
+  pub offset : AreBytes m.offset
   pub cmdline : AreBytes m.cmdline
 
 -- all that is shown of a log's end are bytes
@@ -66,12 +68,12 @@ AllTellBytes signature records None = EndsBytes (end_told records)
 AllTellBytes signature records (Some t) = AreDeathBytes signature records t
 
 -- what comes from elsewhere: the title and the signature, which name the page, the title, parts of the texts that tell
--- why the machine died and what was before it, the telling lines of dumps, and of each record, in order, parts of its
--- summary and what people read of it. Of the record that tells this stands once, with why the machine died
+-- why the machine died and what was before it, the telling lines of dumps, and of each record, the newest first, parts
+-- of its summary and what people read of it. Of the record that tells this stands once, with why the machine died
 abbrev pub foreign_by : List ℕ → List ℕ → List RecordShown → Option DeathTold → List (List ℕ)
 foreign_by title signature records told =
     title ∷ name_bytes signature told ++ title ∷ why_bytes told ++ died_bytes signature records told
-    ++ causes_bytes records ++ flat_map (record_bytes (teller_name told)) records
+    ++ causes_bytes records ++ flat_map (record_bytes (teller_name told)) (newest_first records)
 
 abbrev pub foreign_told : List ℕ → List RecordShown → Option DeathTold → List (List ℕ)
 foreign_told title records told = foreign_by title (signature_told told) records told

@@ -32,7 +32,8 @@ bytes_parts label (b ∷ bs) =
 abbrev pub machine_parts : MachineTold → List Part
 machine_parts m =
     bytes_parts (codes "Hardware") m.hardware ++ bytes_parts (codes "Modules") m.modules
-    ++ bytes_parts (codes "Version") m.version ++ bytes_parts (codes "Command line") m.cmdline
+    ++ bytes_parts (codes "Version") m.version ++ bytes_parts (codes "Kernel offset") m.offset
+    ++ bytes_parts (codes "Command line") m.cmdline
 
 -- ---- what of it comes from the image
 
@@ -46,4 +47,5 @@ some_bytes (b ∷ bs) = (b ∷ bs) ∷ []
 
 abbrev pub machine_bytes : MachineTold → List (List ℕ)
 machine_bytes m =
-    some_bytes m.hardware ++ some_bytes m.modules ++ some_bytes m.version ++ some_bytes m.cmdline
+    some_bytes m.hardware ++ some_bytes m.modules ++ some_bytes m.version ++ some_bytes m.offset
+    ++ some_bytes m.cmdline

@@ -14,6 +14,7 @@ pub mod Reads
 pub mod Parameters
 pub mod Listed
 pub mod Groups
+pub mod Order
 pub mod Causes
 pub mod Pages
 pub mod Escaping

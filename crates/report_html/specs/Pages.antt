@@ -1,5 +1,6 @@
 -- The page of a report
-use Rattle.std.specs.Prelude.{ℕ, Bool, true, false, List, [], ◌∷◌, ◌++◌, length, codes, Option, Some, None}
+use Rattle.std.specs.Prelude.{ℕ, ◌+◌, Bool, true, false, List, [], ◌∷◌, ◌++◌, length, codes, Option, Some, None}
+use Rattle.std.specs.Option.{is_some}
 use Rattle.zone_spec.specs.declared.Name.{Name}
 use Rattle.zone_spec.specs.declared.Time.{Time}
 use Rattle.zone_spec.specs.declared.Zone.{Zone}
@@ -25,6 +26,7 @@ use Rattle.report_html.specs.Parameters.{parameters_parts}
 use Rattle.report_html.specs.Listed.{say_parts, head_parts, mark_parts, fold_parts, is_unfolded, unfolded}
 use Rattle.report_html.specs.Listed.{teller_name, is_teller}
 use Rattle.report_html.specs.Groups.{are_grouped, group_in, edge_parts}
+use Rattle.report_html.specs.Order.{newest_first}
 use Rattle.report_html.specs.Causes.{causes_parts}
 use Rattle.report_html.specs.Regions.{picture}
 
@@ -69,18 +71,24 @@ record_parts zones is_open tells r =
 abbrev pub listed_parts : List Saved → Option ℕ → Option Name → RecordShown → List Part
 listed_parts zones number teller r = record_parts zones (is_unfolded number r.name) (is_teller teller r.name) r
 
--- records after one of a group: where the group changes it ends, and the next one begins
-unfoldable pub records_after : List Saved → (grouped : Bool) (number : Option ℕ) (teller : Option Name) (before : Option ℕ)
-    → List RecordShown → List Part
-records_after zones grouped number teller before [] = edge_parts number before None
-records_after zones grouped number teller before (r ∷ rs) =
-    edge_parts number before (group_in grouped r.name) ++ listed_parts zones number teller r
-    ++ records_after zones grouped number teller (group_in grouped r.name) rs
+-- records from a place on, after one of a group: where the group changes it ends, and the next one begins
+unfoldable pub records_after : List Saved → (grouped : Bool) (number : Option ℕ) (teller : Option Name) (place : ℕ)
+    (before : Option ℕ) → List RecordShown → List Part
+records_after zones grouped number teller place before [] = edge_parts (is_some number) before None
+records_after zones grouped number teller place before (r ∷ rs) =
+    edge_parts (is_some number) before (group_in grouped place r.name) ++ listed_parts zones number teller r
+    ++ records_after zones grouped number teller (place + 1) (group_in grouped place r.name) rs
 
-abbrev pub list_parts : List Zone → ReportHeld → Option DeathTold → List Part
-list_parts zones report told =
-    records_after (saved report.logs) (are_grouped zones) (unfolded (newest report.records) told) (teller_name told) None
-    report.records
+-- all records of a list
+abbrev pub records_parts : List Saved → (number : Option ℕ) (teller : Option Name) → List RecordShown → List Part
+records_parts zones number teller records =
+    records_after zones (are_grouped records) number teller 0 None records
+
+-- the newest come first
+abbrev pub list_parts : ReportHeld → Option DeathTold → List Part
+list_parts report told =
+    records_parts (saved report.logs) (unfolded (newest report.records) told) (teller_name told)
+    (newest_first report.records)
 
 -- how many there are, and what the number of a line means
 abbrev pub records_opening : ℕ → List Part
@@ -109,7 +117,7 @@ abbrev pub page_with : List ℕ → Division → List Zone → ReportHeld → Li
 page_with title division zones report signature told =
     heading_parts title (named_parts signature report.records told) ++ why_parts report.records told
     ++ warnings_parts report told ++ died_parts signature (saved report.logs) report.records told
-    ++ records_opening (length report.records) ++ causes_parts report.records ++ list_parts zones report told
+    ++ records_opening (length report.records) ++ causes_parts report.records ++ list_parts report told
     ++ picture zones report ++ parameters_parts division ++ Words END.now ∷ []
 
 abbrev pub page_by : List ℕ → Division → List Zone → ReportHeld → Option DeathTold → List Part

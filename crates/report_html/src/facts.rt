@@ -87,6 +87,7 @@ pub fn add_machine<'a>(pieces: &mut Vec<Piece<'a>>, machine: Machine<'a>) -> Res
     add_bytes(pieces, "Hardware", machine.hardware)?;
     add_bytes(pieces, "Modules", machine.modules)?;
     add_bytes(pieces, "Version", machine.version)?;
+    add_bytes(pieces, "Kernel offset", machine.offset)?;
     add_bytes(pieces, "Command line", machine.cmdline)?;
     Ok(())
 }

@@ -1,55 +1,47 @@
-// Groups of dumps: those of 32 zones.
-ghost use Rattle.std.specs.Prelude.{◌≡◌, ◌++◌, OnOk};
+// Groups of 32 dumps.
+ghost use Rattle.std.specs.Prelude.{◌≡◌, ◌++◌, OnOk, Some};
 ghost use Rattle.report_html.specs.Pieces.{parts};
-ghost use Rattle.report_html.specs.Groups.{group_at, is_of_dump, are_grouped, group_in, is_same, end_parts};
-ghost use Rattle.report_html.specs.Groups.{group_words, begin_parts, edge_parts};
+ghost use Rattle.report_html.specs.Order.{shown_in};
+ghost use Rattle.report_html.specs.Groups.{is_dump, are_grouped, group_in, is_same, end_parts, newest_words, older_parts};
+ghost use Rattle.report_html.specs.Groups.{begin_parts, edge_parts};
 
 use crate::listed::dump_number;
 use crate::pieces::{Piece, add};
 use region_report::RecordReport;
 use std::alloc::AllocError;
-use zone_spec::{Kind, Zone};
+use zone_spec::Name;
 
-fn group_at(number: Option<u32>) -> Option<u32>
-    ensures { result ≡ group_at number }
+/// How many dumps make a group.
+const GROUP: usize = 32;
+
+fn is_dump(name: Name) -> bool
+    ensures { result ≡ is_dump name }
 {
-    match number {
-        Some(number) => Some(number / 32),
-        None => None,
-    }
+    dump_number(name).is_some()
 }
 
-fn is_of_dump(kind: Kind) -> bool
-    ensures { result ≡ is_of_dump kind }
+/// Whether there are more dumps than make a group.
+pub fn are_grouped(records: &[&RecordReport]) -> bool
+    ensures { result ≡ are_grouped (shown_in records.now) }
 {
-    match kind {
-        Kind::Dump => true,
-        Kind::Console | Kind::Ftrace | Kind::Pmsg => false,
-    }
-}
-
-/// Whether a layout has more than 32 dump zones.
-pub fn are_grouped(zones: &[Zone]) -> bool
-    ensures { result ≡ are_grouped zones.now }
-{
-    match zones.get(32) {
-        Some(zone) => is_of_dump(zone.name.kind),
+    match records.get(GROUP) {
+        Some(held) => is_dump(held.name),
         None => false,
     }
 }
 
-/// The group that a record stands in.
-pub fn group_in(grouped: bool, held: &RecordReport) -> Option<u32>
-    ensures { result ≡ group_in grouped held.now.name }
+/// The group that the record at a place stands in, by how many dumps are newer.
+pub fn group_in(grouped: bool, place: usize, held: &RecordReport) -> Option<usize>
+    ensures { result ≡ group_in grouped place held.now.name }
 {
-    if grouped {
-        group_at(dump_number(held.name))
+    if grouped && is_dump(held.name) {
+        Some(place - place % GROUP)
     } else {
         None
     }
 }
 
-fn is_same(one: Option<u32>, other: Option<u32>) -> bool
+fn is_same(one: Option<usize>, other: Option<usize>) -> bool
     ensures { result ≡ is_same one other }
 {
     match one {
@@ -61,7 +53,7 @@ fn is_same(one: Option<u32>, other: Option<u32>) -> bool
     }
 }
 
-fn add_end(pieces: &mut Vec<Piece<'_>>, group: Option<u32>) -> Result<(), AllocError>
+fn add_end(pieces: &mut Vec<Piece<'_>>, group: Option<usize>) -> Result<(), AllocError>
     ensures { OnOk result (parts pieces.new.items ≡ parts pieces.old.items ++ end_parts group) }
 {
     match group {
@@ -70,49 +62,57 @@ fn add_end(pieces: &mut Vec<Piece<'_>>, group: Option<u32>) -> Result<(), AllocE
     }
 }
 
-fn group_words(is_open: bool) -> &'static str
-    ensures { result.now ≡ group_words is_open }
+fn newest_words(is_open: bool) -> &'static str
+    ensures { result.now ≡ newest_words is_open }
 {
     if is_open {
-        "<details class=\"group\" open>\n<summary><b>Dump zones from "
+        "<details class=\"group\" open>\n<summary><b>Newest dumps</b></summary>\n"
     } else {
-        "<details class=\"group\">\n<summary><b>Dump zones from "
+        "<details class=\"group\">\n<summary><b>Newest dumps</b></summary>\n"
     }
+}
+
+/// Adds where the group begins of dumps than which so many are newer.
+fn add_older(pieces: &mut Vec<Piece<'_>>, newer: usize) -> Result<(), AllocError>
+    ensures { OnOk result (parts pieces.new.items ≡ parts pieces.old.items ++ older_parts newer) }
+{
+    add(
+        pieces,
+        &[
+            Piece::Own("<details class=\"group\">\n<summary><b>Dumps after the newest "),
+            Piece::Number(newer as u64),
+            Piece::Own("</b></summary>\n"),
+        ],
+    )
 }
 
 fn add_begin(
     pieces: &mut Vec<Piece<'_>>,
-    number: Option<u32>,
-    group: Option<u32>,
+    is_open: bool,
+    group: Option<usize>,
 ) -> Result<(), AllocError>
-    ensures { OnOk result (parts pieces.new.items ≡ parts pieces.old.items ++ begin_parts number group) }
+    ensures { OnOk result (parts pieces.new.items ≡ parts pieces.old.items ++ begin_parts is_open group) }
 {
     match group {
-        Some(of) => add(
-            pieces,
-            &[
-                Piece::Own(group_words(is_same(group_at(number), Some(of)))),
-                Piece::Number(32 * u64::from(of)),
-                Piece::Own("</b></summary>\n"),
-            ],
-        ),
+        Some(0) => add(pieces, &[Piece::Own(newest_words(is_open))]),
+        Some(newer) => add_older(pieces, newer),
         None => Ok(()),
     }
 }
 
-/// Adds what stands between a record of one group and one of another, or of none.
+/// Adds what stands between a record of one group and one of another, or of none. The first group can be open.
 pub fn add_edge(
     pieces: &mut Vec<Piece<'_>>,
-    number: Option<u32>,
-    before: Option<u32>,
-    after: Option<u32>,
+    is_open: bool,
+    before: Option<usize>,
+    after: Option<usize>,
 ) -> Result<(), AllocError>
     ensures { OnOk result (parts pieces.new.items
-        ≡ parts pieces.old.items ++ edge_parts number before after) }
+        ≡ parts pieces.old.items ++ edge_parts is_open before after) }
 {
     if is_same(before, after) {
         return Ok(());
     }
     add_end(pieces, before)?;
-    add_begin(pieces, number, after)
+    add_begin(pieces, is_open, after)
 }

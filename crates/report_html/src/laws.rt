@@ -1,13 +1,16 @@
-// What escaped bytes are, what the lines of a log and the runs of a picture are, that each dump is counted once, and a
-// worked picture.
+// What escaped bytes are, what the lines of a log and the runs of a picture are, that each dump is counted once, that
+// the newest records come first, and a worked picture.
 ghost use Rattle.std.specs.Prelude.{◌≡◌, ℕ, ◌+◌, List, [], ◌∷◌, length, filter, flat_map};
 ghost use Rattle.std.specs.List.{sum_by};
+ghost use Rattle.std.specs.List.Sorted.{IsPermutation, IsSortedBy, IsStableBy};
 ghost use Rattle.zone_spec.specs.Parts.{AreBytes};
 ghost use Rattle.report_spec.specs.Escaped.{IsText, escaped};
+ghost use Rattle.report_spec.specs.Packed.{RecordShown};
 ghost use Rattle.zone_spec.specs.declared.PartState.{PartState};
 ghost use Rattle.zone_spec.specs.declared.PartState.TheVariants.{Read, Bad};
 ghost use Rattle.death_spec.specs.Lines.{lines_from};
 ghost use Rattle.report_html.specs.Logs.{line_bytes};
+ghost use Rattle.report_html.specs.Order.{goes_before, newest_first};
 ghost use Rattle.report_html.specs.Pictures.{runs};
 ghost use Rattle.report_html.specs.Causes.{CrashShown, has_line_of, rows_of, has_no_row};
 ghost use Rattle.report_html.specs.Covers.{Cover, states_of};
@@ -34,6 +37,14 @@ pub fn each_dump_is_counted_once()
     ensures { (crashes : List CrashShown)
         → sum_by (λ (first : CrashShown). length (filter (has_line_of first) crashes)) (rows_of crashes)
         + length (filter (has_no_row (rows_of crashes)) crashes) ≡ length crashes }
+{}
+
+/// The list of records on a page has them all. No record is newer than one that stands before it, and those of which none
+/// is newer stand as they did.
+pub fn the_newest_come_first()
+    ensures all { (records : List RecordShown) → IsPermutation records (newest_first records) }
+    ensures sorted { (records : List RecordShown) → IsSortedBy goes_before (newest_first records) }
+    ensures stable { (records : List RecordShown) → IsStableBy goes_before records (newest_first records) }
 {}
 
 /// Six blocks, of which two neighbours are clean and two bad, make four runs.

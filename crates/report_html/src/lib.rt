@@ -17,6 +17,7 @@ mod laws;
 mod listed;
 mod logs;
 mod names;
+mod order;
 mod page;
 mod parameters;
 mod picture;
@@ -32,6 +33,7 @@ mod zone_rows;
 pub use escaping::push_escaped;
 pub use laws::{
     a_log_is_its_lines, each_dump_is_counted_once, escaped_is_text, six_blocks_make_four_runs,
+    the_newest_come_first,
 };
 pub use page::html;
 pub use pieces::{Piece, render};

@@ -6,7 +6,8 @@ ghost use Rattle.zone_spec.specs.Parts.{AreBytes};
 ghost use Rattle.report_spec.specs.Packed.{readable};
 ghost use Rattle.report_html.specs.Pieces.{parts};
 ghost use Rattle.report_html.specs.Pages.{time_parts, length_parts, packing_parts, content_parts, summary_parts};
-ghost use Rattle.report_html.specs.Pages.{record_parts, records_after, list_parts, records_opening, heading_parts};
+ghost use Rattle.report_html.specs.Order.{shown_in};
+ghost use Rattle.report_html.specs.Pages.{record_parts, records_parts, list_parts, records_opening, heading_parts};
 ghost use Rattle.report_html.specs.Pages.{named_parts, page_with, page_of};
 ghost use Rattle.report_html.specs.Escaping.{HoldBytes, AllTellBytes, IsWithoutMarkup};
 
@@ -17,6 +18,7 @@ use crate::groups::{add_edge, are_grouped, group_in};
 use crate::listed::{
     add_fold, add_head, add_mark, add_say, is_teller, is_unfolded, teller_name, unfolded,
 };
+use crate::order::newest_first;
 use crate::parameters::add_parameters;
 use crate::picture::add_picture;
 use crate::pieces::{Piece, add, render};
@@ -174,53 +176,47 @@ fn add_record<'a>(
     Ok(())
 }
 
-/// Adds the records, in groups or not. That of the dump of this number is unfolded, and that of this name tells.
+/// Adds records, in groups or not. That of the dump of this number is unfolded, and that of this name tells.
 fn add_each<'a>(
     pieces: &mut Vec<Piece<'a>>,
     logs: &Logs,
-    grouped: bool,
     number: Option<u32>,
     teller: Option<Name>,
-    records: &'a [RecordReport],
+    records: &[&'a RecordReport],
 ) -> Result<(), AllocError>
-    ensures bytes { OnOk result (HoldBytes records.entry.now) }
+    ensures bytes { OnOk result (HoldBytes (shown_in records.now)) }
     ensures parts { OnOk result (parts pieces.new.items
-        ≡ parts pieces.old.items ++ records_after (saved logs.now) grouped number teller None records.entry.now) }
+        ≡ parts pieces.old.items ++ records_parts (saved logs.now) number teller (shown_in records.now)) }
 {
+    let grouped = are_grouped(records);
     let mut before = None;
-    for held in records {
-        let group = group_in(grouped, held);
-        add_edge(pieces, number, before, group)?;
+    for (place, held) in records.iter().enumerate() {
+        let group = group_in(grouped, place, held);
+        add_edge(pieces, number.is_some(), before, group)?;
         let (is_open, tells) = (is_unfolded(number, held), is_teller(teller, held));
         add_record(pieces, logs, is_open, tells, held)?;
         before = group;
     }
-    add_edge(pieces, number, before, None)?;
+    add_edge(pieces, number.is_some(), before, None)?;
     Ok(())
 }
 
-/// Adds the records of a report of these zones, in which this tells why the machine died.
+/// Adds the records of a report, the newest first, of which this tells why the machine died.
 fn add_list<'a>(
+    alloc: Global,
     pieces: &mut Vec<Piece<'a>>,
-    zones: &[Zone],
     report: &'a Report,
     told: Option<Telling<'_>>,
 ) -> Result<(), AllocError>
     ensures bytes { OnOk result (HoldBytes report.entry.now.records) }
     ensures parts { OnOk result (parts pieces.new.items
-        ≡ parts pieces.old.items ++ list_parts zones.now report.entry.now (told_in told.entry)) }
+        ≡ parts pieces.old.items ++ list_parts report.entry.now (told_in told.entry)) }
 {
     let records = report.records();
     let number = unfolded(newest_dump(records), told);
     let teller = teller_name(told);
-    add_each(
-        pieces,
-        report.logs(),
-        are_grouped(zones),
-        number,
-        teller,
-        records,
-    )
+    let ordered = newest_first(alloc, records)?;
+    add_each(pieces, report.logs(), number, teller, ordered.as_slice())
 }
 
 /// Adds how many records there are.
@@ -309,7 +305,7 @@ fn all_pieces<'a>(
     )?;
     add_records_opening(&mut pieces, report.records().len() as u64)?;
     add_causes(alloc, &mut pieces, report.records())?;
-    add_list(&mut pieces, zones, report, told)?;
+    add_list(alloc, &mut pieces, report, told)?;
     add_picture(alloc, &mut pieces, zones, report)?;
     add_parameters(&mut pieces, division)?;
     add(&mut pieces, &[Piece::Own(END)])?;

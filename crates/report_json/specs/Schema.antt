@@ -298,8 +298,9 @@ abbrev pub machine_with : MachineTold → Data
 machine_with m = object (
     member (codes "cmdline") (bytes_data m.cmdline) (
     member (codes "hardware") (bytes_data m.hardware) (
+    member (codes "kernel_offset") (bytes_data m.offset) (
     member (codes "modules") (bytes_data m.modules) (
-    member (codes "version") (bytes_data m.version) no_members))))
+    member (codes "version") (bytes_data m.version) no_members)))))
 
 abbrev pub ended_machine : Option EndTold → Data
 ended_machine None = null

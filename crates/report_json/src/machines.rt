@@ -19,11 +19,13 @@ fn machine_with(alloc: Global, machine: Machine<'_>) -> Result<Value, AllocError
 {
     let cmdline = bytes_value(alloc, machine.cmdline)?;
     let hardware = bytes_value(alloc, machine.hardware)?;
+    let offset = bytes_value(alloc, machine.offset)?;
     let modules = bytes_value(alloc, machine.modules)?;
     let version = bytes_value(alloc, machine.version)?;
     json!(in alloc; {
         "cmdline": cmdline,
         "hardware": hardware,
+        "kernel_offset": offset,
         "modules": modules,
         "version": version
     })

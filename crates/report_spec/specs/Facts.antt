@@ -1,14 +1,15 @@
 -- What is known of a death besides its line
-use Rattle.std.specs.Prelude.{ℕ, ◌+◌, ◌-◌, ◌*◌, ◌%◌, Bool, ◌&&◌, nat_eq, nat_le, nat_lt, if◌then◌else◌, List, [], ◌∷◌}
-use Rattle.std.specs.Prelude.{drop, length, codes, Option, Some, None}
-use Rattle.std.specs.List.{prefix_len, starts_with}
+use Rattle.std.specs.Prelude.{ℕ, ◌+◌, ◌-◌, ◌*◌, ◌%◌, Bool, ◌&&◌, nat_le, nat_lt, if◌then◌else◌, List, [], ◌∷◌}
+use Rattle.std.specs.Prelude.{drop, codes, Option, Some, None}
+use Rattle.std.specs.List.{prefix_len}
 use Rattle.std.specs.Char.{is_ascii_whitespace}
 use Rattle.death_spec.specs.declared.Line.{Line}
-use Rattle.death_spec.specs.Lines.{part, lines_from, said}
+use Rattle.death_spec.specs.Lines.{part, lines_from}
 use Rattle.death_spec.specs.Signatures.{signature_of}
 use Rattle.report_spec.specs.Packed.{RecordShown, readable}
 use Rattle.report_spec.specs.Deaths.{DeathTold, stamped, has_line}
 use Rattle.report_spec.specs.Ends.{EndTold}
+use Rattle.report_spec.specs.Said.{said_after}
 
 -- ---- how long the machine had been up
 
@@ -35,13 +36,6 @@ seconds_from n (b ∷ bs) = if is_digit b then seconds_from (with_digit n b) bs 
 
 -- ---- the machine
 
--- what follows these words in the first of lines in which the kernel says them
-unfoldable pub said_after : List ℕ → List ℕ → List Line → List ℕ
-said_after text words [] = []
-said_after text words (line ∷ lines) =
-    if starts_with nat_eq (said text line) words then part (said text line) (length words) (length (said text line))
-    else said_after text words lines
-
 abbrev pub or_bytes : List ℕ → List ℕ → List ℕ
 or_bytes [] other = other
 or_bytes (b ∷ bs) other = b ∷ bs
@@ -52,6 +46,7 @@ pub record MachineTold : Type 0 where
   pub modules : List ℕ
   pub cmdline : List ℕ
   pub version : List ℕ
+  pub offset : List ℕ
 
 -- the machine's name by the lines of its boot: a device tree's, or the firmware's
 abbrev pub model_in : List ℕ → List Line → List ℕ
@@ -59,8 +54,8 @@ model_in text lines =
     or_bytes (said_after text (codes "Machine model: ") lines)
     (or_bytes (said_after text (codes "OF: fdt: Machine model: ") lines) (said_after text (codes "DMI: ") lines))
 
--- the hardware and the modules by a report below a place; the command line, the kernel's version, and the hardware where
--- no report names it, by the boot's lines
+-- the hardware, the modules and how far the kernel lies from its link address (`dump_kernel_offset`), by a report below
+-- a place; the command line, the kernel's version, and the hardware where no report names it, by the boot's lines
 abbrev pub machine_in : List ℕ → ℕ → MachineTold
 machine_in text at = record {
   hardware = or_bytes (said_after text (codes "Hardware name: ") (lines_from text at)) (model_in text (lines_from text 0));
@@ -68,6 +63,7 @@ machine_in text at = record {
   cmdline = or_bytes (said_after text (codes "Kernel command line: ") (lines_from text 0))
       (said_after text (codes "Command line: ") (lines_from text 0));
   version = said_after text (codes "Linux version ") (lines_from text 0);
+  offset = said_after text (codes "Kernel Offset: ") (lines_from text at);
 }
 
 abbrev pub machine_or : MachineTold → MachineTold → MachineTold
@@ -76,6 +72,7 @@ machine_or m other = record {
   modules = or_bytes m.modules other.modules;
   cmdline = or_bytes m.cmdline other.cmdline;
   version = or_bytes m.version other.version;
+  offset = or_bytes m.offset other.offset;
 }
 
 -- the console's text, if it has the telling line too: it is then of the same boot

@@ -1,3 +1,4 @@
+pub mod Said
 pub mod Packed
 pub mod Newest
 pub mod Deaths

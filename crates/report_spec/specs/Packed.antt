@@ -24,6 +24,7 @@ use Rattle.report_spec.specs.declared.TextFault.TheVariants.{Broken, TooLong}
 use Rattle.report_spec.specs.declared.Packing.{Packing}
 use Rattle.report_spec.specs.declared.Packing.TheVariants.{Plain, Whole, Part}
 use Rattle.zone_spec.specs.RecordsHeld.{RecordHeld, records_held}
+use Rattle.report_spec.specs.Said.{shift_in}
 
 -- a record's name and content as its file has them, the content with its notice, and how many bytes that has; whether
 -- its bytes were packed; and of a pmsg the entries of Android's log, if it has such, with their lines
@@ -92,13 +93,14 @@ as_listed r =
       lines = lines_text r.content (entries r.content);
     }
 
--- an ftrace log by the lines in which the kernel shows its entries, with the functions of a map
-abbrev pub as_traced : List ℕ → RecordHeld → RecordShown
-as_traced names r =
+-- an ftrace log by the lines in which the kernel shows its entries, with the functions of a map, above which it ran so
+-- far
+abbrev pub as_traced : List ℕ → (shift : ℕ) → RecordHeld → RecordShown
+as_traced names shift r =
     record {
       name = r.name;
       time = r.time;
-      content = trace_text names r.content;
+      content = trace_text names shift r.content;
       notice = 0;
       packing = Plain;
       entries = [];
@@ -145,23 +147,28 @@ IsUnpacked most index r (Whole taken) shown = (text : List ℕ) × Inflates r.co
 IsUnpacked most index r (Part fault text) shown =
     StopsAt r.content most fault text × (shown ≡ as_it_stands r (Part fault text))
 
-abbrev pub IsShownBy : List Zone → List ℕ → Name → RecordHeld → RecordShown → Type 0
-IsShownBy zones names (Dump index true) r shown = IsUnpacked (most_of zones index) index r shown.packing shown
-IsShownBy zones names (Dump index false) r shown = shown ≡ as_it_stands r Plain
-IsShownBy zones names Console r shown = shown ≡ as_it_stands r Plain
-IsShownBy zones names Pmsg r shown = shown ≡ as_listed r
-IsShownBy zones names Ftrace r shown = shown ≡ as_traced names r
+abbrev pub IsShownBy : List Zone → List ℕ → (shift : ℕ) → Name → RecordHeld → RecordShown → Type 0
+IsShownBy zones names shift (Dump index true) r shown = IsUnpacked (most_of zones index) index r shown.packing shown
+IsShownBy zones names shift (Dump index false) r shown = shown ≡ as_it_stands r Plain
+IsShownBy zones names shift Console r shown = shown ≡ as_it_stands r Plain
+IsShownBy zones names shift Pmsg r shown = shown ≡ as_listed r
+IsShownBy zones names shift Ftrace r shown = shown ≡ as_traced names shift r
 
 -- a record of a layout's zones, and how it is shown with the functions of a map
-abbrev pub IsShown : List Zone → List ℕ → RecordHeld → RecordShown → Type 0
-IsShown zones names r shown = IsShownBy zones names r.name r shown
+abbrev pub IsShown : List Zone → List ℕ → (shift : ℕ) → RecordHeld → RecordShown → Type 0
+IsShown zones names shift r shown = IsShownBy zones names shift r.name r shown
 
--- each of these records, in order
+-- each of records, in order
+abbrev pub AreShownBy : List Zone → List ℕ → (shift : ℕ) → List RecordHeld → List RecordShown → Type 0
+AreShownBy zones names shift [] [] = ⊤
+AreShownBy zones names shift [] (shown ∷ more) = ⊥
+AreShownBy zones names shift (r ∷ rs) [] = ⊥
+AreShownBy zones names shift (r ∷ rs) (shown ∷ more) =
+    IsShown zones names shift r shown × AreShownBy zones names shift rs more
+
+-- all records of an image, with the functions of a map, above which the kernel ran as far as the console says
 abbrev pub AreShown : List Zone → List ℕ → List RecordHeld → List RecordShown → Type 0
-AreShown zones names [] [] = ⊤
-AreShown zones names [] (shown ∷ more) = ⊥
-AreShown zones names (r ∷ rs) [] = ⊥
-AreShown zones names (r ∷ rs) (shown ∷ more) = IsShown zones names r shown × AreShown zones names rs more
+AreShown zones names records shown = AreShownBy zones names (shift_in names records) records shown
 
 abbrev pub readable_of : Packing (List ℕ) → List ℕ → List ℕ
 readable_of Plain content = content

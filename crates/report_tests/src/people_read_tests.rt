@@ -112,6 +112,86 @@ fn trace_with_functions(rt: HostRuntime) -> Result<(), Fail> {
     Ok(())
 }
 
+// A kernel that runs 16 MiB above its map, as its console says: an entry of it, and one of an address below that.
+const MOVED: &[u8] =
+    b"\0\x10\0\x82\xff\xff\xff\xff\x1f \0\x82\xff\xff\xff\xff\0g\x12\0\0\0\0\0\x10\0\0\0\0\0\0\0\0\0\0\0\0\0\0\0\x03h\x12\0\0\0\0\0";
+
+const LINKED: &[u8] = b"ffffffff81000000 T _text\nffffffff81001000 T do_work\nffffffff81002000 t run_work\n\
+0000000000000000 T start\n";
+
+const RUNNING: &[u8] =
+    b"ffffffff82000000 T _text\nffffffff82001000 T do_work\nffffffff82002000 t run_work\n";
+
+const NAMED: &str = "CPU:0 ts:4711 ffffffff82001000  ffffffff8200201f  do_work <- run_work+0x1f
+CPU:3 ts:4712 00000010  00000000  0x10 <- 0x0\n";
+
+const UNNAMED: &str =
+    "CPU:0 ts:4711 ffffffff82001000  ffffffff8200201f  0xffffffff82001000 <- 0xffffffff8200201f\n";
+
+/// The lines of the trace of `MOVED` by a map and a console.
+fn moved(alloc: Global, map: &[u8], console: &[u8]) -> Result<Report, Fail> {
+    let params = Params {
+        console: 4096,
+        ..params(0, 4096)
+    };
+    let mut image = image_of(alloc, 0x4347_4244, console)?;
+    image.extend_from_slice(&image_of(alloc, 0x4341_4384, MOVED)?)?;
+    let symbols = Symbols::read(alloc, Vec::from_slice(alloc, map)?)?;
+    report_by(alloc, &params, image, &symbols)
+}
+
+fn begins_trace(report: &Report, lines: &str) -> bool {
+    for record in report.records() {
+        if record.name == Name::Ftrace {
+            return record.content.as_slice().starts_with(lines.as_bytes());
+        }
+    }
+    false
+}
+
+// An offset that is applied; that is not, since the map is of the running kernel; that is said otherwise; or not at all.
+#[test]
+fn trace_of_a_moved_kernel(rt: HostRuntime) -> Result<(), Fail> {
+    for (map, console, lines) in [
+        (
+            LINKED,
+            &b"[    3.0] Kernel Offset: 0x1000000 from 0xffffffff81000000 (relocation range: 0xffffffff80000000-0xffffffffbfffffff)\n"[..],
+            NAMED,
+        ),
+        (
+            LINKED,
+            b"[    3.0] Kernel Offset: 0x1000000 from 0xFFFFFFFF81000000\n",
+            NAMED,
+        ),
+        (
+            RUNNING,
+            b"[    3.0] Kernel Offset: 0x1000000 from 0xffffffff81000000\n",
+            NAMED,
+        ),
+        (
+            LINKED,
+            b"[    3.0] Kernel Offset: 0x1000000 from 0xffffffff81000010\n",
+            UNNAMED,
+        ),
+        (LINKED, b"[    3.0] Kernel Offset: disabled\n", UNNAMED),
+        (
+            LINKED,
+            b"[    3.0] Kernel Offset: 0x1000z00 from 0xffffffff81000000\n",
+            UNNAMED,
+        ),
+        (
+            LINKED,
+            b"[    3.0] Kernel Offset: 0x1000000 from 0x\n",
+            UNNAMED,
+        ),
+        (LINKED, b"[    3.0] Kernel panic\n", UNNAMED),
+    ] {
+        let report = moved(rt.alloc(), map, console)?;
+        assert!(rt; begins_trace(&report, lines), "{lines}");
+    }
+    Ok(())
+}
+
 #[test]
 fn trace_of_an_arm(rt: HostRuntime) -> Result<(), Fail> {
     let report = reported(rt.alloc(), &params(0, 4096), 0x4341_4384, ARM)?;

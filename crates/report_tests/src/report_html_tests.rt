@@ -416,51 +416,90 @@ fn page_of_many(alloc: Global, logs: &[(u16, &[u8])]) -> Result<Vec<u8>, Fail> {
     page_of(alloc, b"a", &params, &report)
 }
 
-// Dumps of 32 zones make a group. That of the unfolded dump is open.
+/// The page of dumps in the zones below a number, all of one time, but for the later one of zone 34.
+fn page_of_dumps(alloc: Global, count: u16) -> Result<Vec<u8>, Fail> {
+    let mut logs: Vec<(u16, &[u8])> = Vec::new(alloc);
+    for zone in 0..count {
+        let log: &[u8] = if zone == 34 {
+            b"====2.0-D\nb\n"
+        } else {
+            b"====1.0-D\na\n"
+        };
+        logs.push((zone, log))?;
+    }
+    page_of_many(alloc, logs.as_slice())
+}
+
+// 32 dumps make a group. The first one is open if the newest dump is.
 #[test]
 fn groups_of_dumps(rt: HostRuntime) -> Result<(), Fail> {
-    let page = page_of_many(
-        rt.alloc(),
-        &[
-            (0, b"====1.0-D\na\n"),
-            (31, b"====2.0-D\nb\n"),
-            (32, b"====4.0-D\nc\n"),
-            (35, b"====3.0-D\nd\n"),
-            (36, b"e\n"),
-        ],
-    )?;
+    let page = page_of_dumps(rt.alloc(), 36)?;
     let text = str::from_utf8(page.as_slice())?;
     for shown in [
-        "</table></div>\n<details class=\"group\">\n<summary><b>Dump zones from 0</b></summary>
+        "<details class=\"group\" open>\n<summary><b>Newest dumps</b></summary>
+<details open>\n<summary><span class=\"say\">no telling line</span>\n<b>dmesg-ramoops-34</b>",
+        "b\n</pre>\n</details>
 <details>\n<summary><span class=\"say\">no telling line</span>\n<b>dmesg-ramoops-0</b>",
-        "a\n</pre>\n</details>
+        "a\n</pre>\n</details>\n</details>
+<details class=\"group\">\n<summary><b>Dumps after the newest 32</b></summary>
 <details>\n<summary><span class=\"say\">no telling line</span>\n<b>dmesg-ramoops-31</b>",
-        "b\n</pre>\n</details>\n</details>
-<details class=\"group\" open>\n<summary><b>Dump zones from 32</b></summary>
-<details open>\n<summary><span class=\"say\">no telling line</span>\n<b>dmesg-ramoops-32</b>",
-        "c\n</pre>\n</details>
+        "a\n</pre>\n</details>
 <details>\n<summary><span class=\"say\">no telling line</span>\n<b>dmesg-ramoops-35</b>",
-        "d\n</pre>\n</details>\n</details>
-<details>\n<summary><span class=\"say\">no telling line</span>\n<b>console-ramoops-0</b>",
-        "e\n</pre>\n</details>\n<h2 id=\"region\">",
+        "a\n</pre>\n</details>\n</details>\n<h2 id=\"region\">",
     ] {
         assert!(rt; text.contains(shown), "{shown}");
     }
     Ok(())
 }
 
-// One group of dumps, first or last, and no group.
+// 32 dumps have no group.
 #[test]
-fn one_group_of_dumps(rt: HostRuntime) -> Result<(), Fail> {
+fn no_group_of_dumps(rt: HostRuntime) -> Result<(), Fail> {
+    let page = page_of_dumps(rt.alloc(), 32)?;
+    assert!(rt; !has(&page, "class=\"group\"")?);
+    assert!(rt; !shows(rt, [OOPS, PANIC, NONE, CONSOLE], "class=\"group\"")?);
+    let page = page_of_dumps(rt.alloc(), 33)?;
+    assert!(rt; has(&page, "<b>Dumps after the newest 32</b>")?);
+    Ok(())
+}
+
+/// Whether a page lists records of these names one after another.
+fn lists(page: &[u8], names: &[&str]) -> Result<bool, Fail> {
+    let mut rest = str::from_utf8(page)?;
+    for name in names {
+        match rest.split_once("</span>\n<b>") {
+            Some((_, after)) if after.starts_with(name) => rest = after,
+            _ => return Ok(false),
+        }
+    }
+    Ok(!rest.contains("</span>\n<b>"))
+}
+
+// The latest time first; equal times, and the console, which has none, as they are listed.
+#[test]
+fn newest_records_first(rt: HostRuntime) -> Result<(), Fail> {
     let page = page_of_many(
         rt.alloc(),
-        &[(0, b"====1.0-D\na\n"), (31, b"====2.0-D\nb\n")],
+        &[
+            (0, b"====1.000005-D\na\n"),
+            (1, b"====3.000000-D\nb\n"),
+            (2, b"====1.000006-D\nc\n"),
+            (3, b"====3.000000-D\nd\n"),
+            (4, b"====20.0-D\ne\n"),
+            (36, b"f\n"),
+        ],
     )?;
-    assert!(rt; has(&page, "from 0</b>")? && !has(&page, "from 32</b>")?);
-    let last = "a\n</pre>\n</details>\n</details>\n<h2 id=\"region\">";
-    let page = page_of_many(rt.alloc(), &[(33, b"====1.0-D\na\n")])?;
-    assert!(rt; has(&page, last)?);
-    assert!(rt; !shows(rt, [OOPS, PANIC, NONE, CONSOLE], "class=\"group\"")?);
+    let names = [
+        "dmesg-ramoops-4<",
+        "dmesg-ramoops-1<",
+        "dmesg-ramoops-3<",
+        "dmesg-ramoops-2<",
+        "dmesg-ramoops-0<",
+        "console-ramoops-0<",
+    ];
+    assert!(rt; lists(&page, &names)?);
+    let page = page_of_many(rt.alloc(), &[(36, b"f\n")])?;
+    assert!(rt; lists(&page, &["console-ramoops-0<"])?);
     Ok(())
 }
 

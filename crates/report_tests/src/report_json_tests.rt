@@ -20,7 +20,7 @@ fn line_of_console(alloc: Global, text: &[u8]) -> Result<String, Fail> {
 fn record_as_text_and_in_base64(rt: HostRuntime) -> Result<(), Fail> {
     let line = line_of_console(rt.alloc(), b"abc")?;
     let front =
-        "{\"better\":null,\"death\":null,\"end\":{\"ending\":\"broken_off\",\"line\":\"abc\",\"reason\":null,\"record\":\"console-ramoops-0\"},\"machine\":{\"cmdline\":null,\"hardware\":null,\"modules\":null,\"version\":null},\"parameters\":{\"block_size\":128,\"byte_order\":\"little\",\"console_size\":4096,\"cpus\":1,\"ecc\":0,\"ecc_console\":0,\
+        "{\"better\":null,\"death\":null,\"end\":{\"ending\":\"broken_off\",\"line\":\"abc\",\"reason\":null,\"record\":\"console-ramoops-0\"},\"machine\":{\"cmdline\":null,\"hardware\":null,\"kernel_offset\":null,\"modules\":null,\"version\":null},\"parameters\":{\"block_size\":128,\"byte_order\":\"little\",\"console_size\":4096,\"cpus\":1,\"ecc\":0,\"ecc_console\":0,\
 \"ecc_dump\":0,\"ecc_ftrace\":0,\"ecc_pmsg\":0,\"ftrace_sig\":0,\"ftrace_size\":0,\"mem_size\":4096,\"order\":\"console,ftrace,pmsg\",\"pmsg_size\":0,\
 \"record_size\":0},\"path\":\"a\\\"b\",\"records\":[{\"bad\":0,\"base64\":null,\"compressed\":false,\
 \"corrected\":0,\"entries\":null,\"fault\":null,\"name\":\"console-ramoops-0\",\"taken\":null,\"text\":\"abc\",\"time\":null}],\"schema\":2,\"signature\":null,\"warnings\":[],\"zones\":[{\"bad\":0,\"blocks\":[0,null";
@@ -77,21 +77,21 @@ fn why_it_died(rt: HostRuntime) -> Result<(), Fail> {
             "{\"better\":null,\"death\":{\"cpu\":\"0\",\"function\":\"sysrq_handle_crash+0x16/0x20\",\"is_next\":false,\"kernel\":\"Not tainted 6.1.0 #1\",\
 \"line\":\"Kernel panic - not syncing: <b>\",\"record\":\"dmesg-ramoops-0\",\"second\":null,\
 \"task\":\"PID: 1 Comm: init\",\"trace\":[\"panic\",\"sysrq_handle_crash\"],\"uptime\":\"2.500000\"},\"end\":null,\
-\"machine\":{\"cmdline\":null,\"hardware\":null,\"modules\":null,\"version\":null},\"parameters\":",
+\"machine\":{\"cmdline\":null,\"hardware\":null,\"kernel_offset\":null,\"modules\":null,\"version\":null},\"parameters\":",
         ),
         (
             [NONE, PANIC, NONE, CONSOLE],
             "{\"better\":null,\"death\":{\"cpu\":null,\"function\":null,\"is_next\":false,\"kernel\":null,\
 \"line\":\"Kernel panic - not syncing: sysrq triggered crash\",\"record\":\"dmesg-ramoops-1\",\"second\":null,\
 \"task\":null,\"trace\":[],\"uptime\":\"3.034971\"},\"end\":null,\
-\"machine\":{\"cmdline\":null,\"hardware\":null,\"modules\":null,\"version\":null},\"parameters\":",
+\"machine\":{\"cmdline\":null,\"hardware\":null,\"kernel_offset\":\"disabled\",\"modules\":null,\"version\":null},\"parameters\":",
         ),
         (
             [NONE, NONE, NONE, FATAL],
             "{\"better\":null,\"death\":{\"cpu\":null,\"function\":null,\"is_next\":false,\"kernel\":null,\"line\":\"Oops: a\",\
 \"record\":\"console-ramoops-0\",\"second\":\"Kernel panic - not syncing: Fatal exception\",\
 \"task\":null,\"trace\":[],\"uptime\":\"3.0\"},\"end\":null,\
-\"machine\":{\"cmdline\":null,\"hardware\":null,\"modules\":null,\"version\":null},\"parameters\":",
+\"machine\":{\"cmdline\":null,\"hardware\":null,\"kernel_offset\":null,\"modules\":null,\"version\":null},\"parameters\":",
         ),
     ] {
         let report = worked_deaths::report_on(rt.alloc(), logs)?;

@@ -166,6 +166,7 @@ zones 4, records 1
   signature  kernel panic: sysrq triggered crash
   when       2026-11-26 23:44:14.688627 UTC
   up         3.034971 s
+  offset     disabled
   told by    dmesg-ramoops-1; the console has the same line
   image      a
 

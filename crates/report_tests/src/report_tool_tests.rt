@@ -109,7 +109,7 @@ fn each_format(rt: HostRuntime) -> Result<(), Fail> {
         (
             Format::Json,
             "{\"better\":null,\"death\":null,\"end\":{\"ending\":\"broken_off\",\"line\":\"a<\",\"reason\":null,\"record\":\"console-ramoops-0\"},\
-\"machine\":{\"cmdline\":null,\"hardware\":null,\"modules\":null,\"version\":null},\"parameters\":{\"block_size\":128,",
+\"machine\":{\"cmdline\":null,\"hardware\":null,\"kernel_offset\":null,\"modules\":null,\"version\":null},\"parameters\":{\"block_size\":128,",
             "\"text\":\"a<\\n\"",
         ),
         (

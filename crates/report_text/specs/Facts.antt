@@ -75,7 +75,8 @@ named_parts text d =
 abbrev pub machine_parts : MachineTold → List Part
 machine_parts m =
     bytes_fact (codes "  hardware   ") m.hardware ++ bytes_fact (codes "  modules    ") m.modules
-    ++ bytes_fact (codes "  version    ") m.version ++ bytes_fact (codes "  cmdline    ") m.cmdline
+    ++ bytes_fact (codes "  version    ") m.version ++ bytes_fact (codes "  offset     ") m.offset
+    ++ bytes_fact (codes "  cmdline    ") m.cmdline
 
 abbrev pub packing_words : Packing (List ℕ) → List ℕ
 packing_words Plain = []

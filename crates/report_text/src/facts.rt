@@ -157,6 +157,7 @@ pub fn add_machine<'a>(pieces: &mut Vec<Piece<'a>>, machine: Machine<'a>) -> Res
     add_bytes(pieces, "  hardware   ", machine.hardware)?;
     add_bytes(pieces, "  modules    ", machine.modules)?;
     add_bytes(pieces, "  version    ", machine.version)?;
+    add_bytes(pieces, "  offset     ", machine.offset)?;
     add_bytes(pieces, "  cmdline    ", machine.cmdline)
 }
 

@@ -1,2 +1,3 @@
 pub mod Maps
 pub mod Functions
+pub mod Shifts

@@ -3,6 +3,7 @@
 
 mod map;
 mod named;
+mod shifts;
 mod table;
 
 pub use named::Symbols;

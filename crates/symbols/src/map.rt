@@ -30,7 +30,7 @@ fn digit_value(b: u8) -> u8
 }
 
 /// How many digits stand at the front.
-fn digits(text: &[u8]) -> usize
+pub fn digits(text: &[u8]) -> usize
     ensures digits { result ≡ digits_of text.now }
     ensures within { result ≤ length text.now }
 {
@@ -50,7 +50,7 @@ fn number_with(number: u64, digit: u8) -> u64
 }
 
 /// The number that these digits spell, in 64 bits.
-fn number(digits: &[u8]) -> u64
+pub fn number(digits: &[u8]) -> u64
     ensures { result ≡ number_of 0 digits.now }
 {
     let mut number: u64 = 0;
@@ -71,7 +71,7 @@ fn byte_at(text: &[u8], at: usize) -> u8
 }
 
 /// What stands from a place on, or nothing past the end.
-fn tail(text: &[u8], at: usize) -> &[u8]
+pub fn tail(text: &[u8], at: usize) -> &[u8]
     ensures { result.now ≡ drop at text.now }
 {
     if at <= text.len() { &text[at..] } else { &[] }

@@ -2,8 +2,10 @@
 ghost use Rattle.std.specs.Prelude.{◌≡◌, ℕ, [], IfOk};
 ghost use Rattle.symbol_spec.specs.Maps.{name_at as name_of, module_at as module_of, symbols_of};
 ghost use Rattle.symbol_spec.specs.Functions.{function_in, function_of, unless_far};
+ghost use Rattle.symbol_spec.specs.Shifts.{shift_of, function_above};
 
 use crate::map::{module_at, name_at};
+use crate::shifts::{begins_at, from_of, is_shift, number_at};
 use crate::table::{Table, no_table, symbol_table};
 use std::alloc::{AllocError, Global};
 use std::marker::Model;
@@ -66,6 +68,32 @@ impl Symbols {
         ensures { result ≡ function_of self.now address }
     {
         unless_far(address, self.table.function_at(address))
+    }
+
+    /// How far above the map a kernel runs that says this after `Kernel Offset: `; 0 if it says not how far from where,
+    /// or no function of the map begins there.
+    #[tactic(auto, unfolding(symbol_spec::specs::Shifts::shift_of))]
+    pub fn shift(&self, said: &[u8]) -> u64
+        ensures { result ≡ shift_of self.now said.now }
+    {
+        let from = from_of(said);
+        if is_shift(said) && begins_at(from, self.function_at(from)) {
+            number_at(said)
+        } else {
+            0
+        }
+    }
+
+    /// The function of an address of a kernel that runs so far above the map.
+    #[tactic(auto, unfolding(symbol_spec::specs::Shifts::function_above))]
+    pub fn function_above(&self, shift: u64, address: u64) -> Option<Symbol>
+        ensures { result ≡ function_above self.now shift address }
+    {
+        if address < shift {
+            None
+        } else {
+            self.function_at(address - shift)
+        }
     }
 
     /// The name of a function of the map.

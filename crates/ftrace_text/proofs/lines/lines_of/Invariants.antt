@@ -7,4 +7,4 @@ use Rattle.ftrace_text.proofs.lines.lines_of.Given as goal
 
 abbrev pub invariant-loop-entry : goal.invariant-loop-entry
 invariant-loop-entry l =
-    l.out.items ≡ flat_map (line_text l.symbols) (map entry_bytes (take l.entry-index l.entries))
+    l.out.items ≡ flat_map (line_text l.symbols l.shift) (map entry_bytes (take l.entry-index l.entries))

@@ -8,5 +8,5 @@ pub returns : goal.returns
 returns c =
     on_ok_weaker c.push_words.result
     (λ e. e ∙ ap (λ more. c.args.out.now.items ++ more)
-    (line_of_entry c.args.symbols.now c.args.entry.now (omega arith) (omega arith) (omega arith)))
+    (line_of_entry c.args.symbols.now c.args.shift c.args.entry.now (omega arith) (omega arith) (omega arith)))
     c.push_words.ensures

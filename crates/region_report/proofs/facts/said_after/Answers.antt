@@ -3,7 +3,7 @@ use Rattle.std.proofs.Common.{List, ℕ, ap, ap₂, sym, ◌∙◌, ◌≡◌, �
 use Rattle.std.specs.List.{starts_with}
 use Rattle.std.proofs.Common.{nat_eq, true, false}
 use Rattle.death_spec.specs.Lines.{part, said, lines_from}
-use Rattle.report_spec.specs.Facts.{said_after}
+use Rattle.report_spec.specs.Said.{said_after}
 use Rattle.region_report.proofs.SaidLines.{says_here, says_later, says_none}
 use Rattle.region_report.proofs.facts.said_after.Goals as goal
 

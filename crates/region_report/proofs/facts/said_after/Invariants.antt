@@ -1,7 +1,7 @@
 -- The lines that are left decide
 use Rattle.std.proofs.Common.{◌≡◌, ◌-◌, ◌+◌, length}
 use Rattle.death_spec.specs.Lines.{lines_from}
-use Rattle.report_spec.specs.Facts.{said_after}
+use Rattle.report_spec.specs.Said.{said_after}
 use Rattle.region_report.proofs.facts.said_after.Given as goal
 
 abbrev pub invariant-lines : goal.invariant-lines
