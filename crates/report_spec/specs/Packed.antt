@@ -1,7 +1,7 @@
 -- A record as it is shown: a dump whose time line says compressed has the text that its bytes stand for
 -- (fs/pstore/platform.c, decompress_record)
-use Rattle.std.specs.Prelude.{◌≡◌, ℕ, ◌*◌, ◌-◌, ◌≤◌, ⊤, true, false, List, [], ◌∷◌, ◌++◌, length, map, take, slice_get}
-use Rattle.std.specs.Prelude.{codes, Option, Some, None}
+use Rattle.std.specs.Prelude.{◌≡◌, ℕ, ◌*◌, ◌-◌, ◌≤◌, ⊤, Bool, true, false, List, [], ◌∷◌, ◌++◌, length, map, take}
+use Rattle.std.specs.Prelude.{slice_get, codes, Option, Some, None}
 use Rattle.zone_spec.specs.declared.Name.{Name}
 use Rattle.zone_spec.specs.declared.Name.TheVariants.{Dump, Console, Pmsg, Ftrace}
 use Rattle.zone_spec.specs.declared.Time.{Time}
@@ -26,7 +26,8 @@ use Rattle.report_spec.specs.declared.Packing.TheVariants.{Plain, Whole, Part}
 use Rattle.zone_spec.specs.RecordsHeld.{RecordHeld, records_held}
 
 -- a record's name and content as its file has them, the content with its notice, and how many bytes that has; whether
--- its bytes were packed; and of a pmsg the entries of Android's log, if it has such, with their lines
+-- its bytes were packed; of a pmsg the entries of Android's log, if it has such, with their lines; and of each byte of
+-- its text whether it is doubtful, if any is
 pub record RecordShown : Type 0 where
   pub name : Name
   pub time : Option Time
@@ -35,6 +36,7 @@ pub record RecordShown : Type 0 where
   pub packing : Packing (List ℕ)
   pub entries : List Entry
   pub lines : List ℕ
+  pub doubts : List Bool
 
 -- ---- words
 
@@ -77,6 +79,7 @@ as_it_stands r packing =
       packing = packing;
       entries = [];
       lines = [];
+      doubts = [];
     }
 
 -- a pmsg, with its entries and their lines
@@ -90,6 +93,7 @@ as_listed r =
       packing = Plain;
       entries = entries r.content;
       lines = lines_text r.content (entries r.content);
+      doubts = [];
     }
 
 -- an ftrace log by the lines in which the kernel shows its entries, with the functions of a map
@@ -103,6 +107,7 @@ as_traced names r =
       packing = Plain;
       entries = [];
       lines = [];
+      doubts = [];
     }
 
 -- a record, whose content is this trace if it is that of ftrace
@@ -130,6 +135,7 @@ inflated r index text taken =
       packing = Whole taken;
       entries = [];
       lines = [];
+      doubts = [];
     }
 
 -- the bytes stand for the text up to a fault, or up to where it gets too long
