@@ -67,7 +67,8 @@ last_doubts n doubts = drop (length doubts - n) doubts
 -- a record, of each byte of whose text it is known whether it is doubtful
 abbrev pub with_doubts : List Zone → List Saved → List PartStates → RecordShown → RecordShown
 with_doubts layout zones parts r = record r {
-  doubts = last_doubts (length r.content - r.notice) (zone_doubts layout zones parts (zone_place layout r.packing r.name))
+  doubts = last_doubts (length r.content - r.notice)
+      (zone_doubts layout zones parts (zone_place layout r.packing r.name))
 }
 
 -- ---- of a range of a text

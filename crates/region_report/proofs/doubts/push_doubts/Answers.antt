@@ -16,7 +16,8 @@ loop-place-preserved c =
     let at : from + (place - from) ≡ place = omega (arith, low) in
     let more : place - from + 1 ≡ place + 1 - from = omega (arith, low) in
     record {
-      doubts = c.in_ok-push.ensures.items ∙ ap (λ (ds : List Bool). ds ++ c.is_doubtful.result ∷ []) c.loop-place.invariant.doubts
+      doubts = c.in_ok-push.ensures.items
+          ∙ ap (λ (ds : List Bool). ds ++ c.is_doubtful.result ∷ []) c.loop-place.invariant.doubts
           ∙ append_assoc before so_far (c.is_doubtful.result ∷ [])
           ∙ ap (λ (d : Bool). before ++ (so_far ++ d ∷ [])) c.is_doubtful.ensures
           ∙ ap (λ (ds : List Bool). before ++ ds) (sym (map-range_with_len_more f from (place - from) place at))

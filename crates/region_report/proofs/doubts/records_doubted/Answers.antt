@@ -11,11 +11,14 @@ pub loop-entry-preserved : goal.loop-entry-preserved
 loop-entry-preserved c =
     let at = c.loop-entry in
     let entry = c.in-Some.entry in
-    let f : RecordShown → RecordShown = λ r. with_doubts c.args.zones.now (saved c.args.logs.now) c.args.parts.now r in
-    let steps : into_iter_items at.entry-iterator ≡ entry ∷ into_iter_items c.next.new.self = c.in-Some.ensures.steps.0 in
+    let f : RecordShown → RecordShown = λ r. with_doubts c.args.zones.now (saved c.args.logs.now) c.args.parts.now r
+    in
+    let steps : into_iter_items at.entry-iterator ≡ entry ∷ into_iter_items c.next.new.self =
+    c.in-Some.ensures.steps.0 in
     record {
       doubted = c.in_ok-push.ensures.items
-          ∙ ap₂ (λ (rs : List RecordShown) (r : RecordShown). rs ++ r ∷ []) at.invariant.doubted c.in_ok-with_doubts.ensures
+          ∙ ap₂ (λ (rs : List RecordShown) (r : RecordShown). rs ++ r ∷ []) at.invariant.doubted
+          c.in_ok-with_doubts.ensures
           ∙ sym (map-append f at.yielded (entry ∷ []));
       left = at.invariant.left ∙ ap (λ (rest : List RecordShown). at.yielded ++ rest) steps
           ∙ sym (append_assoc at.yielded (entry ∷ []) (into_iter_items c.next.new.self));

@@ -37,5 +37,6 @@ returns c =
     (subst (λ (rs : List RecordHeld). AreShown layout c.args.symbols.now rs shown) c.in_ok-held.ensures
     c.in_ok-shown.ensures)
     (c.in_ok-records.ensures
-    ∙ ap (λ (ps : List PartStates). map (λ (s : RecordShown). with_doubts layout (saved c.in_ok-logs.field-0.logs) ps s) shown)
+    ∙ ap (λ (ps : List PartStates).
+    map (λ (s : RecordShown). with_doubts layout (saved c.in_ok-logs.field-0.logs) ps s) shown)
     c.as_slice.ensures.value)
