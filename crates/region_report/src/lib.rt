@@ -4,6 +4,7 @@
 
 mod counted;
 mod deaths;
+mod doubts;
 mod ends;
 mod excerpts;
 mod facts;
@@ -19,6 +20,7 @@ mod warnings;
 
 pub use counted::counts;
 pub use deaths::{Telling, death_told, has_telling_line, other_told, others_told};
+pub use doubts::{doubts_between, has_doubt};
 pub use ends::{End, dump_reason, end_text, end_told};
 pub use excerpts::{below, place_above};
 pub use facts::{Machine, machine_ended, machine_told, seconds, signature_of, uptime};

@@ -7,6 +7,7 @@ ghost use Rattle.ramoops_layout.specs.Laid.{params_of, zones_of};
 ghost use Rattle.prz_read.specs.Saving.{AreNumbered};
 ghost use Rattle.region_report.specs.Reports.{SpansFit, ReadsTo, IsReport};
 
+use crate::doubts::records_doubted;
 use crate::shown::{RecordReport, shown_records};
 use crate::traced::records_traced;
 use ftrace_text::EntryForm;
@@ -153,7 +154,8 @@ pub fn report_of_zones(
     };
     let Readings { logs, parts } = read_zones(alloc, zones, &spans)?;
     let held = records_traced(alloc, zones, given, &logs)?;
-    let records = shown_records(alloc, zones, symbols, held)?;
+    let shown = shown_records(alloc, zones, symbols, held)?;
+    let records = records_doubted(alloc, zones, &logs, parts.as_slice(), shown)?;
     Ok(Report {
         origin: Origin::Region,
         logs,

@@ -32,6 +32,8 @@ pub struct RecordReport {
     pub entries: Vec<Entry>,
     /// The lines of the entries.
     pub lines: Bytes,
+    /// Of each byte of its text whether it stands in a bad block, if any does.
+    pub doubts: Vec<bool>,
 }
 
 impl Model for RecordReport {
@@ -47,6 +49,7 @@ impl Model for RecordReport {
       packing = r.packing;
       entries = r.entries.items;
       lines = r.lines;
+      doubts = r.doubts.items;
     } };
 }
 
@@ -124,6 +127,7 @@ fn as_it_stands(alloc: Global, held: HeldRecord, packing: Packing<Bytes>) -> Rec
         packing,
         entries: Vec::new(alloc),
         lines: Bytes::from_vec(Vec::new(alloc)),
+        doubts: Vec::new(alloc),
     }
 }
 
@@ -142,6 +146,7 @@ fn as_listed(alloc: Global, held: HeldRecord) -> Result<RecordReport, AllocError
         packing: Packing::Plain,
         entries,
         lines: Bytes::from_vec(lines),
+        doubts: Vec::new(alloc),
     })
 }
 
@@ -168,6 +173,7 @@ fn inflated(
         packing: Packing::Whole { taken },
         entries: Vec::new(alloc),
         lines: Bytes::from_vec(Vec::new(alloc)),
+        doubts: Vec::new(alloc),
     })
 }
 
@@ -215,6 +221,7 @@ fn as_traced(
         packing: Packing::Plain,
         entries: Vec::new(alloc),
         lines: Bytes::from_vec(Vec::new(alloc)),
+        doubts: Vec::new(alloc),
     })
 }
 

@@ -57,7 +57,8 @@ fn add_teller_warning(warnings: &mut Vec<Warning>, bad: u64) -> Result<(), Alloc
     Ok(())
 }
 
-fn is_bad(state: PartState) -> bool
+/// Whether a part is bad.
+pub fn is_bad(state: PartState) -> bool
     ensures { result ≡ is_bad_state state }
 {
     match state {
@@ -78,7 +79,8 @@ fn has_log(zone: &ZoneParts) -> bool
     !zone.blocks.as_slice().is_empty()
 }
 
-fn any_bad(blocks: &[PartState]) -> bool
+/// Whether one of these blocks is bad.
+pub fn any_bad(blocks: &[PartState]) -> bool
     ensures { result ≡ list_any is_bad_state blocks.now }
 {
     blocks.iter().any(|block| is_bad(*block))

@@ -1,5 +1,5 @@
 -- Rows of bytes that are there
-use Rattle.std.proofs.Common.{◌≡◌, ℕ, false, true, List, [], ◌∷◌, length, codes, refl, ◌==◌}
+use Rattle.std.proofs.Common.{◌≡◌, ℕ, Bool, false, true, List, [], ◌∷◌, length, codes, refl, ◌==◌}
 use Rattle.report_spec.specs.Facts.{seconds_from}
 use Rattle.report_html.specs.Pieces.{Part, Words, Bytes, Log, Long}
 use Rattle.report_html.specs.Facts.{up_parts, bytes_parts}
@@ -17,8 +17,8 @@ pub up_is : (uptime : List ℕ) (n : ℕ) → (length uptime == 0) ≡ false →
 up_is [] n e s = let n : true ≡ false = e in cc
 up_is (b ∷ bs) n e s = rw s refl
 
-pub folded_is : (words bytes : List ℕ) → (length bytes == 0) ≡ false
-    → Words (codes "<details>\n<summary>") ∷ Words words ∷ Words (codes "</summary>\n<pre class=\"log\">\n") ∷ Log bytes
-    ∷ Words (codes "</pre>\n</details>\n") ∷ [] ≡ folded_parts words bytes
-folded_is words [] e = let n : true ≡ false = e in cc
-folded_is words (b ∷ bs) e = refl
+pub folded_is : (words : List ℕ) (doubts : List Bool) (bytes : List ℕ) → (length bytes == 0) ≡ false
+    → Words (codes "<details>\n<summary>") ∷ Words words ∷ Words (codes "</summary>\n<pre class=\"log\">\n") ∷ Log doubts bytes
+    ∷ Words (codes "</pre>\n</details>\n") ∷ [] ≡ folded_parts words doubts bytes
+folded_is words doubts [] e = let n : true ≡ false = e in cc
+folded_is words doubts (b ∷ bs) e = refl

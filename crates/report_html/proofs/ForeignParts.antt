@@ -27,6 +27,7 @@ use Rattle.report_spec.specs.declared.Packing.TheVariants.{Plain, Whole, Part as
 use Rattle.report_spec.specs.Packed.{RecordShown, readable}
 use Rattle.report_spec.specs.Newest.{newest, console_of}
 use Rattle.report_spec.specs.Deaths.{DeathTold, death_told}
+use Rattle.report_spec.specs.Doubts.{doubts_between}
 use Rattle.report_spec.specs.Ends.{EndTold, end_told}
 use Rattle.report_spec.specs.Facts.{MachineTold, trimmed, uptime_of, machine_of, machine_ended, signature_told}
 use Rattle.zone_spec.specs.Reading.{ZoneReading}
@@ -57,7 +58,8 @@ use Rattle.report_html.specs.Facts.{when_parts, up_parts, bytes_parts, machine_p
 use Rattle.report_html.specs.Ended.{end_facts, end_parts as ending_parts, end_bytes}
 use Rattle.report_html.specs.Died.{second_parts, said_parts, why_parts, fact_parts}
 use Rattle.report_spec.specs.Excerpts.{place_above, below}
-use Rattle.report_html.specs.Died.{context_parts, rest_parts, rest_end, excerpt_parts, folded_parts, shown_opening, around_parts}
+use Rattle.report_html.specs.Died.{context_parts, rest_parts, rest_end, excerpt_parts, folded_parts, shown_opening}
+use Rattle.report_html.specs.Died.{before_folded, after_folded, around_parts}
 use Rattle.report_html.specs.Died.{console_words, teller_parts, death_parts, died_parts, second_bytes}
 use Rattle.report_html.specs.Died.{said_bytes, why_bytes, context_bytes, rest_bytes, excerpt_bytes, around_bytes, death_bytes}
 use Rattle.report_html.specs.Died.{died_bytes}
@@ -250,10 +252,10 @@ of-mark : (tells : Bool) → foreign_of (mark_parts tells) ≡ []
 of-mark true = refl
 of-mark false = refl
 
-of-content : (tells : Bool) (name : Name) (text : List ℕ)
-    → foreign_of (content_parts tells name text) ≡ content_bytes tells text
-of-content true name text = refl
-of-content false name text = refl
+of-content : (tells : Bool) (name : Name) (doubts : List Bool) (text : List ℕ)
+    → foreign_of (content_parts tells name doubts text) ≡ content_bytes tells text
+of-content true name doubts text = refl
+of-content false name doubts text = refl
 
 of-fold : (is_open : Bool) → foreign_of (fold_parts is_open) ≡ []
 of-fold true = refl
@@ -287,10 +289,10 @@ of-record : (zones : List Saved) (is_open : Bool) (teller : Option Name) (r : Re
 of-record zones is_open teller r =
     let tells : Bool = is_teller teller r.name in
     let said : List (List ℕ) = above_bytes r.name (readable r) ++ head_bytes r.name (readable r) in
-    and-of (fold_parts is_open ++ summary_parts zones tells r) (content_parts tells r.name (readable r)) said
+    and-of (fold_parts is_open ++ summary_parts zones tells r) (content_parts tells r.name r.doubts (readable r)) said
     (content_bytes tells (readable r))
     (and-of (fold_parts is_open) (summary_parts zones tells r) [] said (of-fold is_open) (of-summary zones tells r))
-    (of-content tells r.name (readable r))
+    (of-content tells r.name r.doubts (readable r))
 
 of-end : (group : Option ℕ) → foreign_of (end_parts group) ≡ []
 of-end None = refl
@@ -359,35 +361,40 @@ of-fact label missing text (Some span) = refl
 of-context : (text : List ℕ) (d : Death) → foreign_of (context_parts text d) ≡ context_bytes text d
 of-context text d = simp (both, of-fact)
 
-of-rest : (text : List ℕ) (at : ℕ) (second : Option Line)
-    → foreign_of (rest_parts text at second) ≡ rest_bytes text at second
-of-rest text at None = refl
-of-rest text at (Some line) = refl
+of-rest : (doubts : List Bool) (text : List ℕ) (at : ℕ) (second : Option Line)
+    → foreign_of (rest_parts doubts text at second) ≡ rest_bytes text at second
+of-rest doubts text at None = refl
+of-rest doubts text at (Some line) = refl
 
-of-excerpt : (text : List ℕ) (d : Death) → foreign_of (excerpt_parts text d) ≡ excerpt_bytes text d
-of-excerpt text d =
+of-excerpt : (doubts : List Bool) (text : List ℕ) (d : Death)
+    → foreign_of (excerpt_parts doubts text d) ≡ excerpt_bytes text d
+of-excerpt doubts text d =
     let above : List ℕ = part text (place_above text d.telling.start 8) d.telling.start in
     let line : List ℕ = part text d.telling.start d.telling.next in
-    ap (λ (bs : List (List ℕ)). above ∷ line ∷ bs) (of-rest text d.telling.next d.second)
+    ap (λ (bs : List (List ℕ)). above ∷ line ∷ bs) (of-rest doubts text d.telling.next d.second)
 
-of-folded : (words bytes : List ℕ) → foreign_of (folded_parts words bytes) ≡ some_bytes bytes
-of-folded words [] = refl
-of-folded words (b ∷ bs) = refl
+of-folded : (words : List ℕ) (doubts : List Bool) (bytes : List ℕ)
+    → foreign_of (folded_parts words doubts bytes) ≡ some_bytes bytes
+of-folded words doubts [] = refl
+of-folded words doubts (b ∷ bs) = refl
 
-of-around : (name : Name) (text : List ℕ) (d : Death) → foreign_of (around_parts name text d) ≡ around_bytes text d
-of-around name text d =
-    let front : List ℕ = part text 0 (place_above text d.telling.start 8) in
-    let back : List ℕ = part text (rest_end text d.telling.next d.second) (length text) in
-    let before : List Part = folded_parts (codes "Lines before") front in
-    let shown : List Part = excerpt_parts text d in
+of-around : (name : Name) (doubts : List Bool) (text : List ℕ) (d : Death)
+    → foreign_of (around_parts name doubts text d) ≡ around_bytes text d
+of-around name doubts text d =
+    let from : ℕ = place_above text d.telling.start 8 in
+    let to : ℕ = rest_end text d.telling.next d.second in
+    let front : List ℕ = part text 0 from in
+    let back : List ℕ = part text to (length text) in
+    let before : List Part = before_folded doubts text from in
+    let shown : List Part = excerpt_parts doubts text d in
     let own : List (List ℕ) = excerpt_bytes text d in
     and-of (before ++ shown_opening name ++ shown ++ Words (codes "</pre>\n") ∷ [])
-    (folded_parts (codes "Lines after") back) (some_bytes front ++ own) (some_bytes back)
+    (after_folded doubts text to) (some_bytes front ++ own) (some_bytes back)
     (and-none (before ++ shown_opening name ++ shown) (Words (codes "</pre>\n") ∷ []) (some_bytes front ++ own)
     (and-of (before ++ shown_opening name) shown (some_bytes front) own
-    (and-none before (shown_opening name) (some_bytes front) (of-folded (codes "Lines before") front) refl)
-    (of-excerpt text d)) refl)
-    (of-folded (codes "Lines after") back)
+    (and-none before (shown_opening name) (some_bytes front) (of-folded (codes "Lines before") (doubts_between doubts 0 from) front) refl)
+    (of-excerpt doubts text d)) refl)
+    (of-folded (codes "Lines after") (doubts_between doubts to (length text)) back)
 
 of-after : (time : Option Time) → foreign_of (time_after time) ≡ []
 of-after None = refl
@@ -446,9 +453,9 @@ of-death signature zones records t =
     ++ some_bytes signature ++ machine_bytes (machine_of t (console_of records))
     ++ before_bytes (told_before name records) in
     let first : foreign_of facts ≡ own = simp (both, of-when, of-up, of-fact, of-bytes, of-before, append-nil) in
-    and-of (facts ++ teller_parts zones name words) (around_parts name text t.death) own (around_bytes text t.death)
+    and-of (facts ++ teller_parts zones name words) (around_parts name t.teller.doubts text t.death) own (around_bytes text t.death)
     (and-none facts (teller_parts zones name words) own first (of-teller zones name words))
-    (of-around name text t.death)
+    (of-around name t.teller.doubts text t.death)
 
 of-ending : (zones : List Saved) (t : Option EndTold) → foreign_of (ending_parts zones t) ≡ end_bytes t
 of-ending zones None = refl

@@ -10,6 +10,7 @@ use Rattle.death_spec.specs.Lines.{part}
 use Rattle.report_spec.specs.Packed.{RecordShown, readable}
 use Rattle.report_spec.specs.Newest.{is_console, console_of}
 use Rattle.report_spec.specs.Deaths.{DeathTold, stamped, has_line}
+use Rattle.report_spec.specs.Doubts.{doubts_between}
 use Rattle.report_spec.specs.Ends.{end_told}
 use Rattle.report_spec.specs.Facts.{uptime_of, machine_of}
 use Rattle.report_spec.specs.Excerpts.{place_above, below}
@@ -55,18 +56,20 @@ context_parts text d =
 
 -- ---- the lines around it
 
-abbrev pub log_parts : List ℕ → (from to : ℕ) → List Part
-log_parts text from to = Log (part text from to) ∷ []
+abbrev pub log_parts : List Bool → List ℕ → (from to : ℕ) → List Part
+log_parts doubts text from to = Log (doubts_between doubts from to) (part text from to) ∷ []
 
-abbrev pub marked_parts : List ℕ → Line → List Part
-marked_parts text line =
-    Words (codes "<mark>") ∷ Log (part text line.start line.next) ∷ Words (codes "</mark>") ∷ []
+abbrev pub marked_parts : List Bool → List ℕ → Line → List Part
+marked_parts doubts text line =
+    Words (codes "<mark>") ∷ Log (doubts_between doubts line.start line.next) (part text line.start line.next)
+    ∷ Words (codes "</mark>") ∷ []
 
 -- the lines below the telling line, up to 16 below the last one that tells
-abbrev pub rest_parts : List ℕ → ℕ → Option Line → List Part
-rest_parts text at None = log_parts text at (below text at 16)
-rest_parts text at (Some line) =
-    log_parts text at line.start ++ marked_parts text line ++ log_parts text line.next (below text line.next 16)
+abbrev pub rest_parts : List Bool → List ℕ → ℕ → Option Line → List Part
+rest_parts doubts text at None = log_parts doubts text at (below text at 16)
+rest_parts doubts text at (Some line) =
+    log_parts doubts text at line.start ++ marked_parts doubts text line
+    ++ log_parts doubts text line.next (below text line.next 16)
 
 -- where they end
 abbrev pub rest_end : List ℕ → ℕ → Option Line → ℕ
@@ -74,28 +77,35 @@ rest_end text at None = below text at 16
 rest_end text at (Some line) = below text line.next 16
 
 -- eight lines above the telling line, and the lines below
-abbrev pub excerpt_parts : List ℕ → Death → List Part
-excerpt_parts text d =
-    log_parts text (place_above text d.telling.start 8) d.telling.start ++ marked_parts text d.telling
-    ++ rest_parts text d.telling.next d.second
+abbrev pub excerpt_parts : List Bool → List ℕ → Death → List Part
+excerpt_parts doubts text d =
+    log_parts doubts text (place_above text d.telling.start 8) d.telling.start ++ marked_parts doubts text d.telling
+    ++ rest_parts doubts text d.telling.next d.second
 
 -- lines that are folded, under these words
-abbrev pub folded_parts : (words bytes : List ℕ) → List Part
-folded_parts words [] = []
-folded_parts words (b ∷ bs) =
+abbrev pub folded_parts : (words : List ℕ) → List Bool → (bytes : List ℕ) → List Part
+folded_parts words doubts [] = []
+folded_parts words doubts (b ∷ bs) =
     Words (codes "<details>\n<summary>") ∷ Words words ∷ Words (codes "</summary>\n<pre class=\"log\">\n")
-    ∷ Log (b ∷ bs) ∷ Words (codes "</pre>\n</details>\n") ∷ []
+    ∷ Log doubts (b ∷ bs) ∷ Words (codes "</pre>\n</details>\n") ∷ []
 
 -- where the lines begin that are not folded, with the record's name as their anchor
 abbrev pub shown_opening : Name → List Part
 shown_opening name = Words (codes "<pre class=\"log\" id=\"") ∷ Named name ∷ Words (codes "\">\n") ∷ []
 
 -- all lines of the record that tells: those around the telling line, and those before and after, folded
-abbrev pub around_parts : Name → List ℕ → Death → List Part
-around_parts name text d =
-    folded_parts (codes "Lines before") (part text 0 (place_above text d.telling.start 8)) ++ shown_opening name
-    ++ excerpt_parts text d ++ Words (codes "</pre>\n") ∷ []
-    ++ folded_parts (codes "Lines after") (part text (rest_end text d.telling.next d.second) (length text))
+abbrev pub before_folded : List Bool → List ℕ → ℕ → List Part
+before_folded doubts text to = folded_parts (codes "Lines before") (doubts_between doubts 0 to) (part text 0 to)
+
+abbrev pub after_folded : List Bool → List ℕ → ℕ → List Part
+after_folded doubts text from =
+    folded_parts (codes "Lines after") (doubts_between doubts from (length text)) (part text from (length text))
+
+abbrev pub around_parts : Name → List Bool → List ℕ → Death → List Part
+around_parts name doubts text d =
+    before_folded doubts text (place_above text d.telling.start 8) ++ shown_opening name
+    ++ excerpt_parts doubts text d ++ Words (codes "</pre>\n") ∷ []
+    ++ after_folded doubts text (rest_end text d.telling.next d.second)
 
 -- ---- all of it
 
@@ -124,7 +134,7 @@ death_parts signature zones records t =
     ++ context_parts (readable t.teller) t.death ++ bytes_parts (codes "Signature") signature
     ++ machine_parts (machine_of t (console_of records)) ++ before_parts (told_before t.teller.name records)
     ++ teller_parts zones t.teller.name (console_words t (console_of records))
-    ++ around_parts t.teller.name (readable t.teller) t.death
+    ++ around_parts t.teller.name t.teller.doubts (readable t.teller) t.death
 
 -- of the records, by the one that tells; or by the one whose end is told
 abbrev pub died_parts : List ℕ → List Saved → List RecordShown → Option DeathTold → List Part

@@ -22,7 +22,7 @@ foreign_in (Count n) = []
 foreign_in (Bytes bytes) = bytes ∷ []
 foreign_in (Moment time) = []
 foreign_in (Long seconds) = []
-foreign_in (Log text) = text ∷ []
+foreign_in (Log doubts text) = text ∷ []
 foreign_in (Named name) = []
 foreign_in (Link name) = []
 

@@ -46,12 +46,12 @@ packing_parts (PartOfText fault text) =
     Words (codes "<span class=\"fix\">inflated in part: ") ∷ Words (fault_words fault) ∷ Words (codes "</span>") ∷ []
 
 -- its lines, with its name as their anchor; or where they stand, if it tells why the machine died
-abbrev pub content_parts : Bool → Name → List ℕ → List Part
-content_parts true name content =
+abbrev pub content_parts : Bool → Name → List Bool → List ℕ → List Part
+content_parts true name doubts content =
     Words (codes "</summary>\n<p class=\"note\">Its lines stand above: ") ∷ Link name
     ∷ Words (codes "</p>\n</details>\n") ∷ []
-content_parts false name content =
-    Words (codes "</summary>\n<pre class=\"log\" id=\"") ∷ Named name ∷ Words (codes "\">\n") ∷ Log content
+content_parts false name doubts content =
+    Words (codes "</summary>\n<pre class=\"log\" id=\"") ∷ Named name ∷ Words (codes "\">\n") ∷ Log doubts content
     ∷ Words (codes "</pre>\n</details>\n") ∷ []
 
 -- the summary of a record: the line that tells of it, its name, a dump's first line, whether it tells why the machine
@@ -65,7 +65,7 @@ summary_parts zones tells r =
 -- a record, folded or not: its summary, and what people read of it
 abbrev pub record_parts : List Saved → (is_open tells : Bool) → RecordShown → List Part
 record_parts zones is_open tells r =
-    fold_parts is_open ++ summary_parts zones tells r ++ content_parts tells r.name (readable r)
+    fold_parts is_open ++ summary_parts zones tells r ++ content_parts tells r.name r.doubts (readable r)
 
 -- a record in the list, in which at most the dump of one number is unfolded, and the one of this name tells
 abbrev pub listed_parts : List Saved → Option ℕ → Option Name → RecordShown → List Part

@@ -1,5 +1,5 @@
 -- The parts of a page
-use Rattle.std.specs.Prelude.{ℕ, List, ◌++◌, map, flat_map, codes, decimal}
+use Rattle.std.specs.Prelude.{ℕ, Bool, List, ◌++◌, map, flat_map, codes, decimal}
 use Rattle.zone_spec.specs.declared.Name.{Name}
 use Rattle.zone_spec.specs.declared.Time.{Time}
 use Rattle.report_spec.specs.declared.Origin.{Origin}
@@ -13,7 +13,7 @@ use Rattle.report_html.specs.declared.pieces.Piece.TheVariants.{Log as LogPiece,
 use Rattle.report_html.specs.declared.pieces.Piece.TheVariants.{Long as LongPiece}
 
 -- a part of a page: its own words; a number in decimal; foreign bytes, which are escaped; a time; seconds in larger
--- units; a log, whose lines are foreign bytes; the name of a record's file, which is also its anchor; or a link to a
+-- units; a log with its doubts, whose lines are foreign bytes; the name of a record's file, which is also its anchor; or a link to a
 -- record, in its name
 pub data Part : Type 0 where
   Words : (text : List ℕ) → Part
@@ -21,7 +21,7 @@ pub data Part : Type 0 where
   Bytes : (bytes : List ℕ) → Part
   Moment : (time : Time) → Part
   Long : (seconds : ℕ) → Part
-  Log : (text : List ℕ) → Part
+  Log : (doubts : List Bool) → (text : List ℕ) → Part
   Named : (name : Name) → Part
   Link : (name : Name) → Part
 
@@ -36,7 +36,7 @@ part_text origin (Count n) = decimal n
 part_text origin (Bytes bytes) = escaped bytes
 part_text origin (Moment time) = moment_text time
 part_text origin (Long seconds) = long_text seconds
-part_text origin (Log text) = log_text text
+part_text origin (Log doubts text) = log_text doubts text
 part_text origin (Named name) = name_in origin name
 part_text origin (Link name) = link_text origin name
 
@@ -51,7 +51,7 @@ part_of (Number n) = Count n
 part_of (Foreign bytes) = Bytes bytes.now
 part_of (MomentPiece time) = Moment time
 part_of (LongPiece seconds) = Long seconds
-part_of (LogPiece text) = Log text.now
+part_of (LogPiece doubts text) = Log doubts.now text.now
 part_of (NamedPiece name) = Named name
 part_of (LinkPiece name) = Link name
 

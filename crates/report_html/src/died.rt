@@ -7,8 +7,8 @@ ghost use Rattle.region_report.specs.Tellers.{as_told, told_in};
 ghost use Rattle.report_html.specs.Pieces.{parts};
 ghost use Rattle.report_html.specs.Died.{second_parts, said_parts, why_parts, fact_parts};
 ghost use Rattle.report_html.specs.Died.{context_parts, log_parts};
-ghost use Rattle.report_html.specs.Died.{marked_parts, rest_parts, rest_end, excerpt_parts, folded_parts, shown_opening};
-ghost use Rattle.report_html.specs.Died.{around_parts, shared_words, console_words};
+ghost use Rattle.report_html.specs.Died.{marked_parts, rest_parts, rest_end, excerpt_parts, folded_parts, before_folded};
+ghost use Rattle.report_html.specs.Died.{after_folded, shown_opening, around_parts, shared_words, console_words};
 ghost use Rattle.report_html.specs.Died.{teller_parts, death_parts, died_parts};
 ghost use Rattle.report_html.specs.Escaping.{AreDeathBytes, AllTellBytes};
 
@@ -23,7 +23,7 @@ use death::part;
 use death_spec::{Death, Line, Span};
 use prz_read::Logs;
 use region_report::{
-    RecordReport, Telling, below, console, end_told, has_telling_line, machine_told, place_above,
+    RecordReport, Telling, below, console, doubts_between, end_told, has_telling_line, machine_told, place_above,
     uptime,
 };
 use std::alloc::AllocError;
@@ -128,14 +128,23 @@ fn add_context<'a>(
     add_fact(pieces, "Function", NO_FUNCTION, text, death.function)
 }
 
-fn add_marked<'a>(pieces: &mut Vec<Piece<'a>>, text: &'a [u8], line: Line) -> Result<(), AllocError>
-    ensures { OnOk result (parts pieces.new.items ≡ parts pieces.old.items ++ marked_parts text.entry.now line) }
+fn add_marked<'a>(
+    pieces: &mut Vec<Piece<'a>>,
+    doubts: &'a [bool],
+    text: &'a [u8],
+    line: Line,
+) -> Result<(), AllocError>
+    ensures { OnOk result (parts pieces.new.items
+        ≡ parts pieces.old.items ++ marked_parts doubts.entry.now text.entry.now line) }
 {
     add(
         pieces,
         &[
             Piece::Own("<mark>"),
-            Piece::Log(part(text, line.start, line.next)),
+            Piece::Log(
+                doubts_between(doubts, line.start, line.next),
+                part(text, line.start, line.next),
+            ),
             Piece::Own("</mark>"),
         ],
     )
@@ -143,32 +152,42 @@ fn add_marked<'a>(pieces: &mut Vec<Piece<'a>>, text: &'a [u8], line: Line) -> Re
 
 fn add_log<'a>(
     pieces: &mut Vec<Piece<'a>>,
+    doubts: &'a [bool],
     text: &'a [u8],
     from: usize,
     to: usize,
 ) -> Result<(), AllocError>
     ensures { OnOk result (parts pieces.new.items
-        ≡ parts pieces.old.items ++ log_parts text.entry.now from to) }
+        ≡ parts pieces.old.items ++ log_parts doubts.entry.now text.entry.now from to) }
 {
-    add(pieces, &[Piece::Log(part(text, from, to))])
+    add(
+        pieces,
+        &[Piece::Log(
+            doubts_between(doubts, from, to),
+            part(text, from, to),
+        )],
+    )
 }
 
 /// Adds the lines below the telling line.
 fn add_rest<'a>(
     pieces: &mut Vec<Piece<'a>>,
+    doubts: &'a [bool],
     text: &'a [u8],
     at: usize,
     second: Option<Line>,
 ) -> Result<(), AllocError>
-    ensures { OnOk result (parts pieces.new.items ≡ parts pieces.old.items ++ rest_parts text.entry.now at second) }
+    ensures { OnOk result (parts pieces.new.items
+        ≡ parts pieces.old.items ++ rest_parts doubts.entry.now text.entry.now at second) }
 {
     match second {
         Some(line) => {
-            add_log(pieces, text, at, line.start)?;
-            add_marked(pieces, text, line)?;
-            add_log(pieces, text, line.next, below(text, line.next, BELOW))
+            add_log(pieces, doubts, text, at, line.start)?;
+            add_marked(pieces, doubts, text, line)?;
+            let end = below(text, line.next, BELOW);
+            add_log(pieces, doubts, text, line.next, end)
         }
-        None => add_log(pieces, text, at, below(text, at, BELOW)),
+        None => add_log(pieces, doubts, text, at, below(text, at, BELOW)),
     }
 }
 
@@ -185,26 +204,29 @@ fn rest_end(text: &[u8], at: usize, second: Option<Line>) -> usize
 /// Adds the lines around those that tell.
 fn add_excerpt<'a>(
     pieces: &mut Vec<Piece<'a>>,
+    doubts: &'a [bool],
     text: &'a [u8],
     death: Death,
 ) -> Result<(), AllocError>
-    ensures { OnOk result (parts pieces.new.items ≡ parts pieces.old.items ++ excerpt_parts text.entry.now death) }
+    ensures { OnOk result (parts pieces.new.items
+        ≡ parts pieces.old.items ++ excerpt_parts doubts.entry.now text.entry.now death) }
 {
     let telling = death.telling;
     let from = place_above(text, telling.start, ABOVE);
-    add_log(pieces, text, from, telling.start)?;
-    add_marked(pieces, text, telling)?;
-    add_rest(pieces, text, telling.next, death.second)
+    add_log(pieces, doubts, text, from, telling.start)?;
+    add_marked(pieces, doubts, text, telling)?;
+    add_rest(pieces, doubts, text, telling.next, death.second)
 }
 
 /// Adds lines that are folded, if there are any.
 fn add_folded<'a>(
     pieces: &mut Vec<Piece<'a>>,
     words: &'static str,
+    doubts: &'a [bool],
     bytes: &'a [u8],
 ) -> Result<(), AllocError>
     ensures { OnOk result (parts pieces.new.items
-        ≡ parts pieces.old.items ++ folded_parts words.entry.now bytes.entry.now) }
+        ≡ parts pieces.old.items ++ folded_parts words.entry.now doubts.entry.now bytes.entry.now) }
 {
     if bytes.is_empty() {
         return Ok(());
@@ -215,10 +237,37 @@ fn add_folded<'a>(
             Piece::Own("<details>\n<summary>"),
             Piece::Own(words),
             Piece::Own("</summary>\n<pre class=\"log\">\n"),
-            Piece::Log(bytes),
+            Piece::Log(doubts, bytes),
             Piece::Own("</pre>\n</details>\n"),
         ],
     )
+}
+
+fn add_front<'a>(
+    pieces: &mut Vec<Piece<'a>>,
+    doubts: &'a [bool],
+    text: &'a [u8],
+    to: usize,
+) -> Result<(), AllocError>
+    ensures { OnOk result (parts pieces.new.items
+        ≡ parts pieces.old.items ++ before_folded doubts.entry.now text.entry.now to) }
+{
+    let (doubts, front) = (doubts_between(doubts, 0, to), part(text, 0, to));
+    add_folded(pieces, "Lines before", doubts, front)
+}
+
+fn add_back<'a>(
+    pieces: &mut Vec<Piece<'a>>,
+    doubts: &'a [bool],
+    text: &'a [u8],
+    from: usize,
+) -> Result<(), AllocError>
+    ensures { OnOk result (parts pieces.new.items
+        ≡ parts pieces.old.items ++ after_folded doubts.entry.now text.entry.now from) }
+{
+    let end = text.len();
+    let (doubts, back) = (doubts_between(doubts, from, end), part(text, from, end));
+    add_folded(pieces, "Lines after", doubts, back)
 }
 
 /// Begins the lines that are not folded.
@@ -239,21 +288,21 @@ fn add_shown_opening(pieces: &mut Vec<Piece<'_>>, name: Name) -> Result<(), Allo
 fn add_around<'a>(
     pieces: &mut Vec<Piece<'a>>,
     name: Name,
+    doubts: &'a [bool],
     text: &'a [u8],
     death: Death,
 ) -> Result<(), AllocError>
     ensures bytes { OnOk result (AreBytes text.entry.now) }
     ensures parts { OnOk result (parts pieces.new.items
-        ≡ parts pieces.old.items ++ around_parts name text.entry.now death) }
+        ≡ parts pieces.old.items ++ around_parts name doubts.entry.now text.entry.now death) }
 {
     let from = place_above(text, death.telling.start, ABOVE);
     let to = rest_end(text, death.telling.next, death.second);
-    let (front, back) = (part(text, 0, from), part(text, to, text.len()));
-    add_folded(pieces, "Lines before", front)?;
+    add_front(pieces, doubts, text, from)?;
     add_shown_opening(pieces, name)?;
-    add_excerpt(pieces, text, death)?;
+    add_excerpt(pieces, doubts, text, death)?;
     add(pieces, &[Piece::Own("</pre>\n")])?;
-    add_folded(pieces, "Lines after", back)?;
+    add_back(pieces, doubts, text, to)?;
     Ok(())
 }
 
@@ -329,7 +378,13 @@ fn add_death<'a>(
     add_before(pieces, teller.name, records)?;
     let words = console_text(told, console(records));
     add_teller(pieces, logs, teller.name, words)?;
-    add_around(pieces, teller.name, text, told.death)?;
+    add_around(
+        pieces,
+        teller.name,
+        teller.doubts.as_slice(),
+        text,
+        told.death,
+    )?;
     Ok(())
 }
 

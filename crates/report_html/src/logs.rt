@@ -1,12 +1,13 @@
-// Logs, line by line, each in its level's colour.
-ghost use Rattle.std.specs.Prelude.{◌≡◌, ◌++◌, slice_index, OnOk};
+// Logs, line by line, each in its level's colour, with a mark if a byte of it is doubtful.
+ghost use Rattle.std.specs.Prelude.{◌≡◌, ◌++◌, true, slice_index, OnOk};
 ghost use Rattle.death_spec.specs.Lines.{is_kernels};
-ghost use Rattle.report_html.specs.Logs.{line_bytes, level_words, level_shown, line_by, line_text as text_of_line};
+ghost use Rattle.report_html.specs.Logs.{line_bytes, level_words, level_shown, marked, line_by, line_text as text_of_line};
 ghost use Rattle.report_html.specs.Logs.{log_text};
 
 use crate::escaping::push_escaped;
 use death::{level, next_line, part};
 use death_spec::Line;
+use region_report::has_doubt;
 use std::alloc::AllocError;
 
 fn level_tag(level: u8) -> &'static str
@@ -52,35 +53,66 @@ fn level_shown(text: &[u8], line: Line) -> Option<u8>
     }
 }
 
+/// Appends bytes of which one is doubtful.
+fn push_doubtful(out: &mut Vec<u8>, bytes: &[u8]) -> Result<(), AllocError>
+    ensures { OnOk result (out.new.items ≡ out.old.items ++ marked true bytes.now) }
+{
+    out.extend_from_slice(b"<u title=\"in a bad block\">")?;
+    push_escaped(out, bytes)?;
+    out.extend_from_slice(b"</u>")
+}
+
+/// Appends bytes, marked if one of them is doubtful.
+fn push_marked(out: &mut Vec<u8>, doubtful: bool, bytes: &[u8]) -> Result<(), AllocError>
+    ensures { OnOk result (out.new.items ≡ out.old.items ++ marked doubtful bytes.now) }
+{
+    if doubtful {
+        push_doubtful(out, bytes)
+    } else {
+        push_escaped(out, bytes)
+    }
+}
+
 /// Appends a line in its level's colour.
-fn push_coloured(out: &mut Vec<u8>, level: u8, bytes: &[u8]) -> Result<(), AllocError>
-    ensures { OnOk result (out.new.items ≡ out.old.items ++ line_by (Some level) bytes.now) }
+fn push_coloured(
+    out: &mut Vec<u8>,
+    doubtful: bool,
+    level: u8,
+    bytes: &[u8],
+) -> Result<(), AllocError>
+    ensures { OnOk result (out.new.items ≡ out.old.items ++ line_by doubtful (Some level) bytes.now) }
 {
     if level == 6 {
-        return push_escaped(out, bytes);
+        return push_marked(out, doubtful, bytes);
     }
     out.extend_from_slice(level_tag(level).as_bytes())?;
-    push_escaped(out, bytes)?;
+    push_marked(out, doubtful, bytes)?;
     out.extend_from_slice(b"</i>")
 }
 
-fn push_line(out: &mut Vec<u8>, text: &[u8], line: Line) -> Result<(), AllocError>
-    ensures { OnOk result (out.new.items ≡ out.old.items ++ text_of_line text.now line) }
+fn push_line(
+    out: &mut Vec<u8>,
+    doubts: &[bool],
+    text: &[u8],
+    line: Line,
+) -> Result<(), AllocError>
+    ensures { OnOk result (out.new.items ≡ out.old.items ++ text_of_line doubts.now text.now line) }
 {
     let bytes = part(text, line.start, line.next);
+    let doubtful = has_doubt(doubts, line.start, line.next);
     match level_shown(text, line) {
-        Some(level) => push_coloured(out, level, bytes),
-        None => push_escaped(out, bytes),
+        Some(level) => push_coloured(out, doubtful, level, bytes),
+        None => push_marked(out, doubtful, bytes),
     }
 }
 
-/// Appends the lines of a log.
-pub fn push_log(out: &mut Vec<u8>, text: &[u8]) -> Result<(), AllocError>
-    ensures { OnOk result (out.new.items ≡ out.old.items ++ log_text text.now) }
+/// Appends the lines of a log with the doubts of its bytes.
+pub fn push_log(out: &mut Vec<u8>, doubts: &[bool], text: &[u8]) -> Result<(), AllocError>
+    ensures { OnOk result (out.new.items ≡ out.old.items ++ log_text doubts.now text.now) }
 {
     let mut at = 0;
     'lines: while let Some(line) = next_line(text, at) {
-        push_line(out, text, line)?;
+        push_line(out, doubts, text, line)?;
         at = line.next;
     }
     Ok(())

@@ -94,10 +94,11 @@ fn add_lines<'a>(
     pieces: &mut Vec<Piece<'a>>,
     tells: bool,
     name: Name,
+    doubts: &'a [bool],
     content: &'a [u8],
 ) -> Result<(), AllocError>
     ensures { OnOk result
-        (parts pieces.new.items ≡ parts pieces.old.items ++ content_parts tells name content.entry.now) }
+        (parts pieces.new.items ≡ parts pieces.old.items ++ content_parts tells name doubts.entry.now content.entry.now) }
 {
     if tells {
         add(
@@ -115,7 +116,7 @@ fn add_lines<'a>(
                 Piece::Own("</summary>\n<pre class=\"log\" id=\""),
                 Piece::Named(name),
                 Piece::Own("\">\n"),
-                Piece::Log(content),
+                Piece::Log(doubts, content),
                 Piece::Own("</pre>\n</details>\n"),
             ],
         )
@@ -126,13 +127,14 @@ fn add_content<'a>(
     pieces: &mut Vec<Piece<'a>>,
     tells: bool,
     name: Name,
+    doubts: &'a [bool],
     content: &'a [u8],
 ) -> Result<(), AllocError>
     ensures bytes { AreBytes content.entry.now }
     ensures parts { OnOk result
-        (parts pieces.new.items ≡ parts pieces.old.items ++ content_parts tells name content.entry.now) }
+        (parts pieces.new.items ≡ parts pieces.old.items ++ content_parts tells name doubts.entry.now content.entry.now) }
 {
-    add_lines(pieces, tells, name, content)
+    add_lines(pieces, tells, name, doubts, content)
 }
 
 /// Adds the summary of a record.
@@ -172,7 +174,7 @@ fn add_record<'a>(
     let text = held.readable();
     add_fold(pieces, is_open)?;
     add_summary(pieces, logs, tells, held)?;
-    add_content(pieces, tells, held.name, text)?;
+    add_content(pieces, tells, held.name, held.doubts.as_slice(), text)?;
     Ok(())
 }
 

@@ -20,8 +20,8 @@ pub enum Piece<'a> {
     Moment(Time),
     /// Seconds in larger units, from a minute on.
     Long(u64),
-    /// A log, line by line.
-    Log(&'a [u8]),
+    /// A log, line by line, with the doubts of its bytes.
+    Log(&'a [bool], &'a [u8]),
     /// The name of a record's file, which is also its anchor.
     Named(Name),
     /// A link to a record, in its name.
@@ -40,7 +40,7 @@ fn push_piece(out: &mut Vec<u8>, origin: Origin, piece: Piece<'_>) -> Result<(),
         Piece::Foreign(bytes) => push_escaped(out, bytes),
         Piece::Moment(time) => push_moment(out, time),
         Piece::Long(seconds) => push_long(out, seconds),
-        Piece::Log(text) => push_log(out, text),
+        Piece::Log(doubts, text) => push_log(out, doubts, text),
         Piece::Named(name) => push_name(out, origin, name),
         Piece::Link(name) => push_link(out, origin, name),
     }

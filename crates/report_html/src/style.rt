@@ -67,6 +67,7 @@ white-space:pre-wrap;overflow-wrap:anywhere;tab-size:8}\n\
 .log i,.log mark{display:block;margin:0 -.5rem 0 -.8125rem}\n\
 .log i{padding-left:calc(.5rem + 4ch);text-indent:-4ch;font-style:normal;border-left:.3125rem solid transparent}\n\
 .log mark{padding-left:.8125rem;background:var(--mark);color:inherit;font-weight:700}\n\
+.log u{text-decoration:underline wavy var(--fix);text-underline-offset:.2em}\n\
 .log .l0{border-left-color:var(--l0);color:var(--l0);font-weight:700}\n\
 .log .l1{border-left-color:var(--l1);color:var(--l1);font-weight:700}\n\
 .log .l2{border-left-color:var(--l2);color:var(--l2)}\n\

@@ -10,3 +10,4 @@ pub mod Warnings
 pub mod Facts
 pub mod Ends
 pub mod Origins
+pub mod Doubts

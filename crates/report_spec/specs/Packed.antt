@@ -1,7 +1,7 @@
 -- A record as it is shown: a dump whose time line says compressed has the text that its bytes stand for
 -- (fs/pstore/platform.c, decompress_record)
-use Rattle.std.specs.Prelude.{◌≡◌, ℕ, ◌*◌, ◌-◌, ◌≤◌, ⊤, true, false, List, [], ◌∷◌, ◌++◌, length, map, take, slice_get}
-use Rattle.std.specs.Prelude.{codes, Option, Some, None}
+use Rattle.std.specs.Prelude.{◌≡◌, ℕ, ◌*◌, ◌-◌, ◌≤◌, ⊤, Bool, true, false, List, [], ◌∷◌, ◌++◌, length, map, take}
+use Rattle.std.specs.Prelude.{slice_get, codes, Option, Some, None}
 use Rattle.zone_spec.specs.declared.Name.{Name}
 use Rattle.zone_spec.specs.declared.Name.TheVariants.{Dump, Console, Pmsg, Ftrace}
 use Rattle.zone_spec.specs.declared.Time.{Time}
@@ -27,7 +27,8 @@ use Rattle.zone_spec.specs.RecordsHeld.{RecordHeld, records_held}
 use Rattle.report_spec.specs.Said.{shift_in}
 
 -- a record's name and content as its file has them, the content with its notice, and how many bytes that has; whether
--- its bytes were packed; and of a pmsg the entries of Android's log, if it has such, with their lines
+-- its bytes were packed; of a pmsg the entries of Android's log, if it has such, with their lines; and of each byte of
+-- its text whether it is doubtful, if any is
 pub record RecordShown : Type 0 where
   pub name : Name
   pub time : Option Time
@@ -36,6 +37,7 @@ pub record RecordShown : Type 0 where
   pub packing : Packing (List ℕ)
   pub entries : List Entry
   pub lines : List ℕ
+  pub doubts : List Bool
 
 -- ---- words
 
@@ -78,6 +80,7 @@ as_it_stands r packing =
       packing = packing;
       entries = [];
       lines = [];
+      doubts = [];
     }
 
 -- a pmsg, with its entries and their lines
@@ -91,6 +94,7 @@ as_listed r =
       packing = Plain;
       entries = entries r.content;
       lines = lines_text r.content (entries r.content);
+      doubts = [];
     }
 
 -- an ftrace log by the lines in which the kernel shows its entries, with the functions of a map, above which it ran so
@@ -105,6 +109,7 @@ as_traced names shift r =
       packing = Plain;
       entries = [];
       lines = [];
+      doubts = [];
     }
 
 -- a record, whose content is this trace if it is that of ftrace
@@ -132,6 +137,7 @@ inflated r index text taken =
       packing = Whole taken;
       entries = [];
       lines = [];
+      doubts = [];
     }
 
 -- the bytes stand for the text up to a fault, or up to where it gets too long

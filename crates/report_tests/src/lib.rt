@@ -4,6 +4,8 @@
 #[cfg(test)]
 mod death_told_tests;
 #[cfg(test)]
+mod doubts_tests;
+#[cfg(test)]
 mod packed_dumps;
 #[cfg(test)]
 mod people_read_tests;

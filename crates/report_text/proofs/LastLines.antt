@@ -5,7 +5,8 @@ use Rattle.std.specs.Prelude.{if◌then◌else◌}
 use Rattle.std.proofs.lemmas.Bool.{lt-ltb, le-ltb, ne_eqb}
 use Rattle.std.proofs.lemmas.List.{drop_more}
 use Rattle.std.proofs.Math.Seq.{drop-length}
-use Rattle.report_text.specs.Tails.{is_empty, breaks, last_lines}
+use Rattle.std.proofs.Common.{length-drop}
+use Rattle.report_text.specs.Tails.{is_empty, breaks, last_lines, tail_place}
 
 few-lines : (most : ℕ) (bs : List ℕ) → breaks bs < most → last_lines most bs ≡ bs
 unfolding last_lines
@@ -143,3 +144,10 @@ whole-last most bs i lines h e few =
     let front : i ≡ 0 = omega (arith, h) in
     let same : breaks (drop i bs) ≡ breaks bs = ap (λ (k : ℕ). breaks (drop k bs)) front in
     last-all most bs (omega (arith, e, same, few))
+
+-- the place at which the last lines begin
+pub tail-at : (most : ℕ) (bs : List ℕ) (start : ℕ) → start ≤ length bs → drop start bs ≡ last_lines most bs
+    → start ≡ tail_place most bs
+tail-at most bs start within last =
+    let long : length (drop start bs) ≡ length (last_lines most bs) = ap length last in
+    omega (arith, length-drop start bs, long, within)

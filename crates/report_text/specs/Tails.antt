@@ -1,6 +1,9 @@
--- The last lines of a record
-use Rattle.std.specs.Prelude.{ℕ, ◌+◌, Bool, true, false, ◌&&◌, not, ◌==◌, nat_lt, if◌then◌else◌, List, [], ◌∷◌, ◌++◌}
-use Rattle.std.specs.Prelude.{flat_map, codes, Option, Some, None}
+-- The lines of a record, and the last of them
+use Rattle.std.specs.Prelude.{ℕ, ◌+◌, ◌-◌, Bool, true, false, ◌&&◌, not, ◌==◌, nat_lt, if◌then◌else◌, List, [], ◌∷◌, ◌++◌}
+use Rattle.std.specs.Prelude.{length, flat_map, codes, Option, Some, None}
+use Rattle.death_spec.specs.declared.Line.{Line}
+use Rattle.death_spec.specs.Lines.{lines_from, part}
+use Rattle.report_spec.specs.Doubts.{doubts_between, has_doubt}
 use Rattle.report_spec.specs.Escaped.{is_plain}
 use Rattle.report_spec.specs.declared.Packing.{Packing}
 use Rattle.report_spec.specs.declared.Packing.TheVariants.{Plain, Whole, Part as PartOfText}
@@ -53,10 +56,32 @@ rows_parts lead rows = flat_map (row_parts lead) rows
 abbrev pub lines_parts : List ℕ → List ℕ → List Part
 lines_parts lead bytes = rows_parts lead (rows_from [] 0 bytes)
 
+-- ---- lines of which bytes can be doubtful
+
+-- the two columns before a line: `>` if it tells, `~` if a byte of it is doubtful
+abbrev pub lead : (tells doubtful : Bool) → List ℕ
+lead false false = codes "  "
+lead false true = codes "~ "
+lead true false = codes "> "
+lead true true = codes ">~"
+
+abbrev pub line_rows : (tells : Bool) → List Bool → List ℕ → Line → List Part
+line_rows tells doubts text line =
+    lines_parts (lead tells (has_doubt doubts line.start line.next)) (part text line.start line.next)
+
+-- the lines of a text with these doubts
+unfoldable pub seen_lines : (tells : Bool) → List Bool → List ℕ → List Part
+seen_lines tells doubts text = flat_map (line_rows tells doubts text) (lines_from text 0)
+
 -- ---- a record's end
 
-abbrev pub tail_rows : ℕ → List ℕ → List Part
-tail_rows most bytes = lines_parts (codes "  ") (last_lines most bytes)
+-- where at most so many last lines begin
+abbrev pub tail_place : ℕ → List ℕ → ℕ
+tail_place most bytes = length bytes - length (last_lines most bytes)
+
+abbrev pub tail_rows : ℕ → List Bool → List ℕ → List Part
+tail_rows most doubts bytes =
+    seen_lines false (doubts_between doubts (tail_place most bytes) (length bytes)) (last_lines most bytes)
 
 -- a packed text that goes no further, and why
 abbrev pub break_parts : Packing (List ℕ) → List Part
@@ -68,4 +93,4 @@ break_parts (PartOfText fault text) =
 -- a heading and at most so many last lines of a record, without its notice, if there is one
 abbrev pub tail_parts : List ℕ → ℕ → Option RecordShown → List Part
 tail_parts heading most None = []
-tail_parts heading most (Some r) = Words heading ∷ tail_rows most (said r) ++ break_parts r.packing
+tail_parts heading most (Some r) = Words heading ∷ tail_rows most r.doubts (said r) ++ break_parts r.packing

@@ -23,7 +23,7 @@ newest_log records = option_or (newest records) (console_of records)
 abbrev pub told_lines : ℕ → List RecordShown → Option DeathTold → List Part
 told_lines most records None = tail_parts (codes "\n") most (newest_log records)
 told_lines most records (Some t) =
-    Words (codes "\n") ∷ [] ++ around_parts (said t.teller) most t.death
+    Words (codes "\n") ∷ [] ++ around_parts t.teller.doubts (said t.teller) most t.death
 
 abbrev pub others_parts : List RecordShown → Option DeathTold → List Part
 others_parts records None = []

@@ -7,10 +7,10 @@ ghost use Rattle.report_text.specs.Around.{log_parts, marked_parts, last_end as 
 ghost use Rattle.report_text.specs.Around.{end_below as end_below_of, rest_parts, around_parts};
 
 use crate::pieces::Piece;
-use crate::rows::add_rows;
+use crate::seen::add_lines;
 use death::{next_line, part, trace};
 use death_spec::{Death, Line, Span};
-use region_report::{below, place_above};
+use region_report::{below, doubts_between, place_above};
 use std::alloc::{AllocError, Global};
 
 /// The lines that are shown above the telling line.
@@ -18,19 +18,29 @@ const ABOVE: usize = 8;
 
 fn add_log<'a>(
     pieces: &mut Vec<Piece<'a>>,
+    doubts: &[bool],
     text: &'a [u8],
     from: usize,
     to: usize,
 ) -> Result<(), AllocError>
-    ensures { OnOk result (parts pieces.new.items ≡ parts pieces.old.items ++ log_parts text.entry.now from to) }
+    ensures { OnOk result (parts pieces.new.items
+        ≡ parts pieces.old.items ++ log_parts doubts.now text.entry.now from to) }
 {
-    add_rows(pieces, "  ", part(text, from, to))
+    let doubts = doubts_between(doubts, from, to);
+    add_lines(pieces, false, doubts, part(text, from, to))
 }
 
-fn add_marked<'a>(pieces: &mut Vec<Piece<'a>>, text: &'a [u8], line: Line) -> Result<(), AllocError>
-    ensures { OnOk result (parts pieces.new.items ≡ parts pieces.old.items ++ marked_parts text.entry.now line) }
+fn add_marked<'a>(
+    pieces: &mut Vec<Piece<'a>>,
+    doubts: &[bool],
+    text: &'a [u8],
+    line: Line,
+) -> Result<(), AllocError>
+    ensures { OnOk result (parts pieces.new.items
+        ≡ parts pieces.old.items ++ marked_parts doubts.now text.entry.now line) }
 {
-    add_rows(pieces, "> ", part(text, line.start, line.next))
+    let doubts = doubts_between(doubts, line.start, line.next);
+    add_lines(pieces, true, doubts, part(text, line.start, line.next))
 }
 
 /// Where the last of these functions ends.
@@ -69,36 +79,38 @@ fn end_below(alloc: Global, text: &[u8], at: usize, most: usize) -> Result<usize
 fn add_below<'a>(
     alloc: Global,
     pieces: &mut Vec<Piece<'a>>,
+    doubts: &[bool],
     text: &'a [u8],
     at: usize,
     most: usize,
 ) -> Result<(), AllocError>
     ensures { OnOk result (parts pieces.new.items
-        ≡ parts pieces.old.items ++ log_parts text.entry.now at (end_below_of text.entry.now at most)) }
+        ≡ parts pieces.old.items ++ log_parts doubts.now text.entry.now at (end_below_of text.entry.now at most)) }
 {
     let end = end_below(alloc, text, at, most)?;
-    add_log(pieces, text, at, end)
+    add_log(pieces, doubts, text, at, end)
 }
 
 /// Adds the lines below the telling line.
 fn add_rest<'a>(
     alloc: Global,
     pieces: &mut Vec<Piece<'a>>,
+    doubts: &[bool],
     text: &'a [u8],
     most: usize,
     at: usize,
     second: Option<Line>,
 ) -> Result<(), AllocError>
     ensures { OnOk result (parts pieces.new.items
-        ≡ parts pieces.old.items ++ rest_parts text.entry.now most at second) }
+        ≡ parts pieces.old.items ++ rest_parts doubts.now text.entry.now most at second) }
 {
     match second {
         Some(line) => {
-            add_log(pieces, text, at, line.start)?;
-            add_marked(pieces, text, line)?;
-            add_below(alloc, pieces, text, line.next, most)
+            add_log(pieces, doubts, text, at, line.start)?;
+            add_marked(pieces, doubts, text, line)?;
+            add_below(alloc, pieces, doubts, text, line.next, most)
         }
-        None => add_below(alloc, pieces, text, at, most),
+        None => add_below(alloc, pieces, doubts, text, at, most),
     }
 }
 
@@ -107,16 +119,25 @@ fn add_rest<'a>(
 pub fn add_around<'a>(
     alloc: Global,
     pieces: &mut Vec<Piece<'a>>,
+    doubts: &[bool],
     text: &'a [u8],
     most: usize,
     death: Death,
 ) -> Result<(), AllocError>
     ensures { OnOk result (parts pieces.new.items
-        ≡ parts pieces.old.items ++ around_parts text.entry.now most death) }
+        ≡ parts pieces.old.items ++ around_parts doubts.now text.entry.now most death) }
 {
     let telling = death.telling;
     let from = place_above(text, telling.start, ABOVE);
-    add_log(pieces, text, from, telling.start)?;
-    add_marked(pieces, text, telling)?;
-    add_rest(alloc, pieces, text, most, telling.next, death.second)
+    add_log(pieces, doubts, text, from, telling.start)?;
+    add_marked(pieces, doubts, text, telling)?;
+    add_rest(
+        alloc,
+        pieces,
+        doubts,
+        text,
+        most,
+        telling.next,
+        death.second,
+    )
 }

@@ -14,6 +14,7 @@ mod lines;
 mod pieces;
 mod records;
 mod rows;
+mod seen;
 mod visible;
 mod warned;
 mod whole;

@@ -2,13 +2,13 @@
 ghost use Rattle.std.specs.Prelude.{◌≡◌, ◌≤◌, ◌++◌, drop, length, OnOk};
 ghost use Rattle.std.specs.Option.{option_copied};
 ghost use Rattle.report_text.specs.Pieces.{parts};
-ghost use Rattle.report_text.specs.Tails.{last_lines, break_parts, tail_parts};
+ghost use Rattle.report_text.specs.Tails.{last_lines, tail_rows, break_parts, tail_parts};
 ghost use Rattle.report_text.specs.Whole.{tails};
 
 use crate::pieces::{Piece, add};
-use crate::rows::add_rows;
+use crate::seen::add_lines;
 use outside::Bytes;
-use region_report::{Packing, RecordReport, android_log, console};
+use region_report::{Packing, RecordReport, android_log, console, doubts_between};
 use std::alloc::AllocError;
 
 /// How many lines of the console and of Android's log are shown.
@@ -51,6 +51,21 @@ fn add_break(pieces: &mut Vec<Piece<'_>>, packing: &Packing<Bytes>) -> Result<()
     }
 }
 
+/// Adds at most so many last lines of these bytes.
+fn add_tail_rows<'a>(
+    pieces: &mut Vec<Piece<'a>>,
+    most: usize,
+    doubts: &[bool],
+    bytes: &'a [u8],
+) -> Result<(), AllocError>
+    ensures { OnOk result (parts pieces.new.items
+        ≡ parts pieces.old.items ++ tail_rows most doubts.now bytes.entry.now) }
+{
+    let start = tail_start(bytes, most);
+    let doubts = doubts_between(doubts, start, bytes.len());
+    add_lines(pieces, false, doubts, &bytes[start..])
+}
+
 /// Adds a heading and at most so many last lines of a record, if there is one. A packed text that breaks off ends with
 /// the reason.
 pub fn add_tail<'a>(
@@ -65,8 +80,7 @@ pub fn add_tail<'a>(
     match entry {
         Some(entry) => {
             add(pieces, &[Piece::Own(heading)])?;
-            let bytes = entry.said();
-            add_rows(pieces, "  ", &bytes[tail_start(bytes, most)..])?;
+            add_tail_rows(pieces, most, entry.doubts.as_slice(), entry.said())?;
             add_break(pieces, &entry.packing)
         }
         None => Ok(()),

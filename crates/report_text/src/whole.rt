@@ -49,7 +49,14 @@ fn add_lines<'a>(
         Some(told) => {
             let teller: &'a RecordReport = told.teller;
             add(pieces, &[Piece::Own("\n")])?;
-            add_around(alloc, pieces, teller.said(), most, told.death)
+            add_around(
+                alloc,
+                pieces,
+                teller.doubts.as_slice(),
+                teller.said(),
+                most,
+                told.death,
+            )
         }
         None => add_tail(pieces, "\n", most, newest_log(records)),
     }

@@ -1,8 +1,12 @@
 -- The spans of the image are its zones' bytes
-use Rattle.std.proofs.Common.{List, length, sym, ap, subst, ◌∙◌, refl}
+use Rattle.std.proofs.Common.{List, length, map, sym, ap, subst, ◌∙◌, refl}
 use Rattle.prz_region.specs.CutRegion.{CutRegion, cut_at}
 use Rattle.zone_spec.specs.RecordsHeld.{RecordHeld}
-use Rattle.report_spec.specs.Packed.{AreShown}
+use Rattle.zone_spec.specs.declared.Zone.{Zone}
+use Rattle.zone_spec.specs.PartStates.{PartStates}
+use Rattle.prz_read.specs.Saving.{saved}
+use Rattle.report_spec.specs.Packed.{RecordShown, AreShown}
+use Rattle.report_spec.specs.Doubts.{with_doubts}
 use Rattle.region_report.specs.Reports.{SpansFit}
 use Rattle.region_report.proofs.Zones.{spans-fit, report-is}
 use Rattle.region_report.proofs.report.report_of_zones.Goals as goal
@@ -19,9 +23,20 @@ read_zones-requires-clause-fit c =
     (ap (cut_at c.args.zones.now) (sym c.from_bytes.ensures) ∙ sym c.in-Ok.ensures)
     (spans-fit c.args.zones.now (length c.args.image) c.args.image c.requires.whole refl)
 
+pub records_doubted-requires : goal.records_doubted-requires
+records_doubted-requires c = record { valid = λ i z e. (c.requires.whole.valid i z e).0 }
+
 pub returns : goal.returns
 returns c =
-    report-is c.args.zones.now c.args.symbols.now c.args.given c.args.image c.in-Ok.spans.spans c.in_ok-logs.field-0 c.in_ok-records.records.items
-    (ap (λ (cut : CutRegion). cut.spans) (c.in-Ok.ensures ∙ ap (cut_at c.args.zones.now) c.from_bytes.ensures))
-    c.in_ok-logs.ensures (subst (λ (rs : List RecordHeld). AreShown c.args.zones.now c.args.symbols.now rs c.in_ok-records.records.items)
-    c.in_ok-held.ensures c.in_ok-records.ensures)
+    let layout : List Zone = c.args.zones.now in
+    let shown : List RecordShown = c.in_ok-shown.shown.items in
+    report-is layout c.args.symbols.now c.args.given c.args.image c.in-Ok.spans.spans c.in_ok-logs.field-0 shown
+    c.in_ok-records.records.items
+    (ap (λ (cut : CutRegion). cut.spans) (c.in-Ok.ensures ∙ ap (cut_at layout) c.from_bytes.ensures))
+    c.in_ok-logs.ensures
+    (subst (λ (rs : List RecordHeld). AreShown layout c.args.symbols.now rs shown) c.in_ok-held.ensures
+    c.in_ok-shown.ensures)
+    (c.in_ok-records.ensures
+    ∙ ap (λ (ps : List PartStates).
+    map (λ (s : RecordShown). with_doubts layout (saved c.in_ok-logs.field-0.logs) ps s) shown)
+    c.as_slice.ensures.value)

@@ -1,5 +1,5 @@
 -- What is known of the death, and that it is bytes
-use Rattle.std.proofs.Common.{◌≡◌, ◌++◌, ◌∙◌, List, ℕ, Option, codes, ap, subst}
+use Rattle.std.proofs.Common.{◌≡◌, ◌++◌, ◌∙◌, Bool, List, ℕ, Option, codes, ap, subst}
 use Rattle.zone_spec.specs.Parts.{AreBytes}
 use Rattle.zone_spec.specs.Records.{Saved}
 use Rattle.prz_read.specs.Saving.{saved}
@@ -49,7 +49,7 @@ returns-clause-parts c =
     let a6 : List Part = before_parts (told_before t.teller.name records) in
     let words : List ℕ = console_words t (console_of records) in
     let a7 : List Part = teller_parts zones t.teller.name words in
-    let a8 : List Part = around_parts t.teller.name text t.death in
+    let a8 : List Part = around_parts t.teller.name t.teller.doubts text t.death in
     let e1 : p1 ≡ old ++ a1 =
     c.in_ok-add_when.ensures ∙ ap (λ (q : RecordShown). old ++ when_parts q.time) c.teller.view_is in
     let e2 : p2 ≡ p1 ++ a2 = c.in_ok-add_up.ensures.parts ∙ ap (λ (bs : List ℕ). p1 ++ up_parts bs)
@@ -66,8 +66,10 @@ returns-clause-parts c =
     ∙ ap (λ (bs : List ℕ). p6 ++ teller_parts zones t.teller.name bs)
     (c.console_text-words.ensures ∙ ap (λ (r : Option RecordShown). console_words t r) c.console-2.ensures) in
     let e8 : p8 ≡ p7 ++ a8 = c.in_ok-add_around.ensures.parts
-    ∙ ap (λ (q : RecordShown). p7 ++ around_parts q.name c.readable-text.result.now t.death) c.teller.view_is
-    ∙ ap (λ (bs : List ℕ). p7 ++ around_parts t.teller.name bs t.death) c.readable-text.ensures in
+    ∙ ap (λ (ds : List Bool). p7 ++ around_parts c.teller.inside.name ds c.readable-text.result.now t.death)
+    c.as_slice.ensures.value
+    ∙ ap (λ (q : RecordShown). p7 ++ around_parts q.name q.doubts c.readable-text.result.now t.death) c.teller.view_is
+    ∙ ap (λ (bs : List ℕ). p7 ++ around_parts t.teller.name t.teller.doubts bs t.death) c.readable-text.ensures in
     let t2 = joined old a1 a2 p1 p2 e1 e2 in
     let t3 = joined old (a1 ++ a2) a3 p2 p3 t2 e3 in
     let t4 = joined old (a1 ++ a2 ++ a3) a4 p3 p4 t3 e4 in

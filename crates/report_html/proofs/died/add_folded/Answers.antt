@@ -10,5 +10,5 @@ returns c =
     let old : List Part = parts c.args.pieces.now.items in
     on_ok_weaker c.add.result
     (λ e. e ∙ ap (λ (more : List Part). old ++ more)
-    (folded_is c.args.words.now c.args.bytes.now (sym c.is_empty.ensures ∙ c.if-is_empty.false)))
+    (folded_is c.args.words.now c.args.doubts.now c.args.bytes.now (sym c.is_empty.ensures ∙ c.if-is_empty.false)))
     c.add.ensures

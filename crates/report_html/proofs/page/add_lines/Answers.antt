@@ -9,11 +9,11 @@ pub returns-then-tells : goal.returns-then-tells
 returns-then-tells c =
     let old : List Part = parts c.args.pieces.now.items in
     on_ok_weaker c.add.result
-    (λ e. e ∙ ap (λ (t : Bool). old ++ content_parts t c.args.name c.args.content.now) (sym c.if-tells.true)) c.add.ensures
+    (λ e. e ∙ ap (λ (t : Bool). old ++ content_parts t c.args.name c.args.doubts.now c.args.content.now) (sym c.if-tells.true)) c.add.ensures
 
 pub returns-else-tells : goal.returns-else-tells
 returns-else-tells c =
     let old : List Part = parts c.args.pieces.now.items in
     on_ok_weaker c.add-else-tells.result
-    (λ e. e ∙ ap (λ (t : Bool). old ++ content_parts t c.args.name c.args.content.now) (sym c.if-tells.false))
+    (λ e. e ∙ ap (λ (t : Bool). old ++ content_parts t c.args.name c.args.doubts.now c.args.content.now) (sym c.if-tells.false))
     c.add-else-tells.ensures
