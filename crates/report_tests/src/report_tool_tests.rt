@@ -139,7 +139,11 @@ fn json_by(alloc: Global, given: &[&str], image: Vec<u8>) -> Result<Vec<u8>, Fai
         words.push(String::from_str(alloc, word)?)?;
     }
     let plan = plan_of(alloc, words)?;
-    let mut image = MemStore::new(Bytes::from_vec(image), 8192, Calls::new(alloc, &[])?)?;
+    let bytes = Bytes::from_vec(image);
+    if bytes.len() > 8192 {
+        return Err(Fail::from("the image is too long"));
+    }
+    let mut image = MemStore::new(bytes, 8192, Calls::new(alloc, &[])?)?;
     let mut out = MemSink::new(alloc, 65536, Calls::new(alloc, &[])?)?;
     match report(alloc, &plan, Format::Json, "a.img", &mut image, &mut out) {
         Ok(_) => Ok(Vec::from_slice(alloc, out.bytes())?),
