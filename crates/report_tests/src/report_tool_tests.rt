@@ -2,7 +2,7 @@
 ghost use Rattle.std.specs.Prelude.{None};
 
 use crate::packed_dumps::{DAMAGED, WHOLE, image_of};
-use crate::worked_deaths::{self, NEWER, NONE, OOPS};
+use crate::worked_deaths::{self, NEWER, NONE, OOPS, ORDERLY, PANIC, QUIET};
 use grammar_spec::ParamFault;
 use layout_search::Candidate;
 use outside::{Bytes, Calls, Failed, MemSink, MemStore};
@@ -132,28 +132,38 @@ fn each_format(rt: HostRuntime) -> Result<(), Fail> {
     Ok(())
 }
 
-// The report as JSON of a dump, a console and two zones more, of which the first has five bytes, by words that give the
-// sizes and this one.
-fn laid_by(alloc: Global, word: &str, dump: &[u8], console: &[u8]) -> Result<Vec<u8>, Fail> {
+// The report of an image as JSON, by these words.
+fn json_by(alloc: Global, given: &[&str], image: Vec<u8>) -> Result<Vec<u8>, Fail> {
     let mut words = Vec::new(alloc);
-    for word in [
-        "mem_size=4096",
-        "record_size=1024",
-        "console_size=1024",
-        "ftrace_size=1024",
-        "pmsg_size=1024",
-        word,
-    ] {
+    for word in given {
         words.push(String::from_str(alloc, word)?)?;
     }
     let plan = plan_of(alloc, words)?;
-    let bytes = Bytes::from_vec(worked_deaths::image_of(alloc, [dump, console, b"user\n", NONE])?);
+    let bytes = Bytes::from_vec(image);
+    if bytes.len() > 8192 {
+        return Err(Fail::from("the image is too long"));
+    }
     let mut image = MemStore::new(bytes, 8192, Calls::new(alloc, &[])?)?;
     let mut out = MemSink::new(alloc, 65536, Calls::new(alloc, &[])?)?;
     match report(alloc, &plan, Format::Json, "a.img", &mut image, &mut out) {
         Ok(_) => Ok(Vec::from_slice(alloc, out.bytes())?),
         Err(_) => Err(Fail::from("the image was reported")),
     }
+}
+
+// The report of a dump, a console and two zones more, of which the first has five bytes, by words that give the sizes
+// and this one.
+fn laid_by(alloc: Global, word: &str, dump: &[u8], console: &[u8]) -> Result<Vec<u8>, Fail> {
+    let words = [
+        "mem_size=4096",
+        "record_size=1024",
+        "console_size=1024",
+        "ftrace_size=1024",
+        "pmsg_size=1024",
+        word,
+    ];
+    let image = worked_deaths::image_of(alloc, [dump, console, b"user\n", NONE])?;
+    json_by(alloc, &words, image)
 }
 
 fn is_shown(alloc: Global, row: &(&str, &[u8], &[u8], bool)) -> Result<bool, Fail> {
@@ -171,17 +181,81 @@ fn is_shown(alloc: Global, row: &(&str, &[u8], &[u8], bool)) -> Result<bool, Fai
 #[test]
 fn an_order_that_the_records_tell(rt: HostRuntime) -> Result<(), Fail> {
     let rows: [(&str, &[u8], &[u8], bool); 8] = [
-        ("ecc=0", NONE, b"[    0.0] Linux version 6.12.48+deb13-arm64 (a) #1\n", true),
-        ("ecc=0", NONE, b"[    0.0] Linux version 6.1.192 (a) #1\n", false),
-        ("ecc=0", NONE, b"[    0.0] Linux version 6.6.0 (a) #1\n", false),
+        (
+            "ecc=0",
+            NONE,
+            b"[    0.0] Linux version 6.12.48+deb13-arm64 (a) #1\n",
+            true,
+        ),
+        (
+            "ecc=0",
+            NONE,
+            b"[    0.0] Linux version 6.1.192 (a) #1\n",
+            false,
+        ),
+        (
+            "ecc=0",
+            NONE,
+            b"[    0.0] Linux version 6.6.0 (a) #1\n",
+            false,
+        ),
         ("ecc=0", NONE, b"[    0.0] Linux\n", false),
-        ("order=console,ftrace,pmsg", NONE, b"[    0.0] Linux version 6.12.0 (a) #1\n", false),
-        ("order=console,pmsg,ftrace", NONE, b"[    0.0] Linux version 6.1.0 (a) #1\n", true),
-        ("ecc=0", NEWER, b"[    0.0] Linux version 6.1.0 (a) #1\n", true),
-        ("ecc=0", OOPS, b"[    0.0] Linux version 6.12.0 (a) #1\n", false),
+        (
+            "order=console,ftrace,pmsg",
+            NONE,
+            b"[    0.0] Linux version 6.12.0 (a) #1\n",
+            false,
+        ),
+        (
+            "order=console,pmsg,ftrace",
+            NONE,
+            b"[    0.0] Linux version 6.1.0 (a) #1\n",
+            true,
+        ),
+        (
+            "ecc=0",
+            NEWER,
+            b"[    0.0] Linux version 6.1.0 (a) #1\n",
+            true,
+        ),
+        (
+            "ecc=0",
+            OOPS,
+            b"[    0.0] Linux version 6.12.0 (a) #1\n",
+            false,
+        ),
     ];
     for row in rows {
         assert!(rt; is_shown(rt.alloc(), &row)?);
+    }
+    Ok(())
+}
+
+// Three dumps of 1024 bytes, of which the second tells of a death, and a console, by this size of a record.
+fn sized_by(alloc: Global, size: &str) -> Result<Vec<u8>, Fail> {
+    let words = [
+        "mem_size=4096",
+        size,
+        "console_size=1024",
+        "ftrace_size=0",
+        "pmsg_size=0",
+    ];
+    let image = worked_deaths::image_of(alloc, [QUIET, PANIC, NONE, ORDERLY])?;
+    json_by(alloc, &words, image)
+}
+
+// By a record size of 2048 the zones read well, and the dump that tells is none of them.
+#[test]
+fn a_death_that_words_pass_over(rt: HostRuntime) -> Result<(), Fail> {
+    for (size, piece) in [
+        ("record_size=1024", "{\"better\":null,\"death\":{"),
+        (
+            "record_size=2048",
+            "{\"better\":\"record_size=1024 console_size=1024 ftrace_size=0 ",
+        ),
+    ] {
+        let shown = sized_by(rt.alloc(), size)?;
+        assert!(rt; str::from_utf8(&shown)?.starts_with(piece), "by {size}");
     }
     Ok(())
 }

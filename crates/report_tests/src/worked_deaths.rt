@@ -24,6 +24,10 @@ pub const OOPS: &[u8] = b"====1795736654.642000-D\nOops#7 Part1\n\
 pub const SILENT: &[u8] =
     b"====1795736655.0-D\nPanic#9 Part1\n<6>[    4.000000] sysrq: Trigger a crash\n";
 
+/// A dump earlier than the others, without a telling line.
+pub const QUIET: &[u8] =
+    b"====1795736650.0-D\nPanic#1 Part1\n<6>[    1.000000] sysrq: Trigger a crash\n";
+
 /// Lines of the console of the same run.
 pub const CONSOLE: &[u8] = b"[    3.034160] sysrq: Trigger a crash\n\
 [    3.034971] Kernel panic - not syncing: sysrq triggered crash\n[    3.036072] Kernel Offset: disabled\n";

@@ -18,7 +18,7 @@ use Rattle.layout_search.proofs.BestSoFar.{parts_in}
 use Rattle.region_report.specs.Reports.{ReportHeld, IsReport}
 use Rattle.report_tool.specs.declared.plan.Plan.{Plan}
 use Rattle.report_tool.specs.declared.showing.Format.{Format}
-use Rattle.report_tool.specs.Better.{reads_badly, words_unless, AreWordsOf, IsWordsStop}
+use Rattle.report_tool.specs.Better.{explains_more, words_if, AreWordsOf, IsWordsStop}
 use Rattle.report_tool.specs.LayoutWords.{layout_words}
 use Rattle.report_tool.specs.Plans.{IsLaid}
 use Rattle.report_tool.specs.Images.{IsNotReported}
@@ -33,19 +33,20 @@ found_within known image o f e h =
     within known image f.candidate (subst (λ (x : Option Found). IsSearched known image x) e h).of_family
 
 -- the words of a layout by its report
-pub judged : {E : Type 0} (c : Candidate) (image : List ℕ) (plan : Plan) (report : ReportHeld) (badly : Bool)
-    → IsLaid (params_of c) plan → IsReport plan.zones.items plan.symbols plan.entries (take plan.mem image) report
-    → badly ≡ reads_badly report → (r : Result (String Global) E)
-    → IfOk r (λ words. string_bytes words ≡ words_unless badly (layout_words c (length image)))
-    → IfOk r (λ words. AreWordsOf c image (string_bytes words))
-judged c image plan report badly laid is same (Ok words) h = record {
-  plan = plan;
+pub judged : {E : Type 0} (plan : Plan) (report : ReportHeld) (c : Candidate) (image : List ℕ) (other : Plan)
+    (told : ReportHeld) (is_better : Bool) → IsLaid (params_of c) other
+    → IsReport other.zones.items other.symbols other.entries (take other.mem image) told
+    → is_better ≡ explains_more plan report other told → (r : Result (String Global) E)
+    → IfOk r (λ words. string_bytes words ≡ words_if is_better (layout_words c (length image)))
+    → IfOk r (λ words. AreWordsOf plan report c image (string_bytes words))
+judged plan report c image other told is_better laid is same (Ok words) h = record {
+  other = other;
   laid = laid;
-  report = report;
+  told = told;
   is_report = is;
-  words_are = h ∙ ap (λ (b : Bool). words_unless b (layout_words c (length image))) same;
+  words_are = h ∙ ap (λ (b : Bool). words_if b (layout_words c (length image))) same;
 }
-judged c image plan report badly laid is same (Err e) h = h
+judged plan report c image other told is_better laid is same (Err e) h = h
 
 -- a search that stops ends the report
 pub stopped : (format : Format) (path : List ℕ) (plan : Plan) (holds given : Option (List ℕ)) (doubted : Bool)

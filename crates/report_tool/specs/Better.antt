@@ -1,10 +1,11 @@
 -- Another layout that explains an image better than the one that was given
-use Rattle.std.specs.Prelude.{◌≡◌, ℕ, Bool, true, false, ◌&&◌, if◌then◌else◌, List, [], length, take, Option, Some, None}
-use Rattle.std.specs.Prelude.{IfSome}
-use Rattle.std.specs.List.{list_any}
+use Rattle.std.specs.Prelude.{◌≡◌, ℕ, Bool, true, false, not, ◌&&◌, ◌||◌, nat_lt, if◌then◌else◌, List, [], length, take}
+use Rattle.std.specs.Prelude.{Option, Some, None, is_some, IfSome}
+use Rattle.std.specs.List.{list_any, count_by}
 use Rattle.command_spec.specs.declared.Stop.{Stop}
 use Rattle.command_spec.specs.declared.Stop.TheVariants.{Memory}
 use Rattle.image_file.specs.Loading.{FrontStop}
+use Rattle.zone_spec.specs.declared.Zone.{Zone}
 use Rattle.zone_spec.specs.Numbers.{most_memory}
 use Rattle.layout_spec.specs.declared.Candidate.{Candidate}
 use Rattle.layout_spec.specs.Laid.{params_of}
@@ -12,6 +13,8 @@ use Rattle.layout_search.specs.declared.searching.Found.{Found}
 use Rattle.layout_search.specs.Answers.{IsSearched}
 use Rattle.report_spec.specs.declared.Warning.{Warning}
 use Rattle.report_spec.specs.declared.Warning.TheVariants.{NoLog, ManyBad}
+use Rattle.report_spec.specs.Deaths.{death_told}
+use Rattle.report_spec.specs.Warnings.{has_bad_part}
 use Rattle.region_report.specs.Reports.{ReportHeld, IsReport}
 use Rattle.region_report.specs.Warned.{warnings_by}
 use Rattle.report_tool.specs.declared.plan.Plan.{Plan}
@@ -29,49 +32,81 @@ doubts_layout other = false
 abbrev pub reads_badly : ReportHeld → Bool
 reads_badly report = list_any doubts_layout (warnings_by report None)
 
+-- ---- what else a report leaves in doubt
+
+abbrev pub tells_death : ReportHeld → Bool
+tells_death report = is_some (death_told report.records)
+
+-- how many zones have bad parts
+abbrev pub bad_zones : ReportHeld → ℕ
+bad_zones report = count_by has_bad_part report.parts
+
+-- whether a zone has parity
+abbrev pub any_parity : List Zone → Bool
+any_parity zones = list_any (λ (z : Zone). nat_lt 0 z.parity) zones
+
+abbrev pub has_parity : Plan → Bool
+has_parity plan = any_parity plan.zones.items
+
+-- it reads badly, no record tells why the machine died, a zone has bad parts, or nothing was checked
+abbrev pub leaves_doubt : Plan → ReportHeld → Bool
+leaves_doubt plan report =
+    reads_badly report || not (tells_death report) || nat_lt 0 (bad_zones report) || not (has_parity plan)
+
 -- ---- another explains the image better: it is what the search takes, knowing nothing, and it does not read badly
 
-abbrev pub words_unless : Bool → List ℕ → List ℕ
-words_unless badly words = if badly then [] else words
+-- it has parity, and fewer zones are bad by it, or the first has none
+abbrev pub checks_more : Plan → ReportHeld → Plan → ReportHeld → Bool
+checks_more plan report other told =
+    has_parity other && (nat_lt (bad_zones told) (bad_zones report) || not (has_parity plan))
 
--- its words, if it does not read badly, and else none
-pub record AreWordsOf (c : Candidate) (image words : List ℕ) : Type 0 where
-  pub plan : Plan
-  pub laid : IsLaid (params_of c) plan
-  pub report : ReportHeld
-  pub is_report : IsReport plan.zones.items plan.symbols plan.entries (take plan.mem image) report
-  pub words_are : words ≡ words_unless (reads_badly report) (layout_words c (length image))
+-- if the first does not read badly, the other tells of a death, which the first does not, or it checks more
+abbrev pub explains_more : Plan → ReportHeld → Plan → ReportHeld → Bool
+explains_more plan report other told =
+    not (reads_badly told)
+    && (reads_badly report || (tells_death told && (not (tells_death report) || checks_more plan report other told)))
 
-abbrev pub AreTakenWords : Bool → Candidate → List ℕ → List ℕ → Type 0
-AreTakenWords false c image words = words ≡ []
-AreTakenWords true c image words = AreWordsOf c image words
+abbrev pub words_if : Bool → List ℕ → List ℕ
+words_if is_better words = if is_better then words else []
 
-abbrev pub AreFoundWords : Option Found → List ℕ → List ℕ → Type 0
-AreFoundWords None image words = words ≡ []
-AreFoundWords (Some f) image words = AreTakenWords f.taken f.candidate image words
+-- its words, if it explains more than the report by this plan, and else none
+pub record AreWordsOf (plan : Plan) (report : ReportHeld) (c : Candidate) (image words : List ℕ) : Type 0 where
+  pub other : Plan
+  pub laid : IsLaid (params_of c) other
+  pub told : ReportHeld
+  pub is_report : IsReport other.zones.items other.symbols other.entries (take other.mem image) told
+  pub words_are : words ≡ words_if (explains_more plan report other told) (layout_words c (length image))
 
-pub record AreOtherWords (image words : List ℕ) : Type 0 where
+abbrev pub AreTakenWords : Bool → Plan → ReportHeld → Candidate → List ℕ → List ℕ → Type 0
+AreTakenWords false plan report c image words = words ≡ []
+AreTakenWords true plan report c image words = AreWordsOf plan report c image words
+
+abbrev pub AreFoundWords : Option Found → Plan → ReportHeld → List ℕ → List ℕ → Type 0
+AreFoundWords None plan report image words = words ≡ []
+AreFoundWords (Some f) plan report image words = AreTakenWords f.taken plan report f.candidate image words
+
+pub record AreOtherWords (plan : Plan) (report : ReportHeld) (image words : List ℕ) : Type 0 where
   pub found : Option Found
   pub searched : IsSearched (known_by []) image found
-  pub words_are : AreFoundWords found image words
+  pub words_are : AreFoundWords found plan report image words
 
--- ---- the words of that layout, where one that was given reads badly, and else none
+-- ---- the words of that layout, where the report by one that was given leaves doubt, and else none
 
-pub record AreSoughtWords (holds : Option (List ℕ)) (words : List ℕ) : Type 0 where
+pub record AreSoughtWords (plan : Plan) (report : ReportHeld) (holds : Option (List ℕ)) (words : List ℕ) : Type 0 where
   pub front : List ℕ
   pub is_front : IfSome holds (λ image. front ≡ take most_memory image)
-  pub words_are : AreOtherWords front words
+  pub words_are : AreOtherWords plan report front words
 
-abbrev pub AreWordsIf : Bool → Option (List ℕ) → List ℕ → Type 0
-AreWordsIf false holds words = words ≡ []
-AreWordsIf true holds words = AreSoughtWords holds words
+abbrev pub AreWordsIf : Bool → Plan → ReportHeld → Option (List ℕ) → List ℕ → Type 0
+AreWordsIf false plan report holds words = words ≡ []
+AreWordsIf true plan report holds words = AreSoughtWords plan report holds words
 
--- a plan that was given reads badly
+-- a plan that was given leaves doubt
 abbrev pub is_doubted : Plan → ReportHeld → Bool
-is_doubted plan report = plan.is_given && reads_badly report
+is_doubted plan report = plan.is_given && leaves_doubt plan report
 
 abbrev pub IsBetter : Plan → ReportHeld → Option (List ℕ) → List ℕ → Type 0
-IsBetter plan report holds words = AreWordsIf (is_doubted plan report) holds words
+IsBetter plan report holds words = AreWordsIf (is_doubted plan report) plan report holds words
 
 -- why the words are not known: the image is read for them only where the plan is doubted
 abbrev pub IsWordsStop : Bool → Stop → ℕ → ℕ → Type 0

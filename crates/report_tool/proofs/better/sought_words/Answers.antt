@@ -7,6 +7,6 @@ pub returns-clause-words : goal.returns-clause-words
 returns-clause-words g c = record {
   front = c.in_ok-front.front.items;
   is_front = c.in_ok-front.ensures.ok.1;
-  words_are = subst (λ (bs : List ℕ). AreOtherWords bs (string_bytes c.in_ok-words.words)) c.deref.ensures.value
+  words_are = subst (λ (bs : List ℕ). AreOtherWords c.args.plan.now c.args.report.now bs (string_bytes c.in_ok-words.words)) c.deref.ensures.value
       c.in_ok-words.ensures;
 }
