@@ -305,10 +305,11 @@ front_block total at image h =
     ∙ take-take 512 (total - at) (drop at image) (omega (arith, h))
 
 -- and of a piece
-pub piece_block : (count from at : ℕ) (piece image : List ℕ) → piece ≡ take count (drop from image) → from ≤ at
-    → at + 512 ≤ from + count → take 512 (drop (at - from) piece) ≡ take 512 (drop at image)
+pub piece_block : (count from at : ℕ) (piece image : List ℕ) → take count piece ≡ take count (drop from image)
+    → from ≤ at → at + 512 ≤ from + count → take 512 (drop (at - from) piece) ≡ take 512 (drop at image)
 piece_block count from at piece image e before inside =
-    ap (λ (xs : List ℕ). take 512 (drop (at - from) xs)) e
-    ∙ front_block count (at - from) (drop from image) (omega (arith, before, inside))
-    ∙ ap (take 512) (drop-drop (at - from) from image)
+    let fits : (at - from) + 512 ≤ count = omega (arith, before, inside) in
+    sym (front_block count (at - from) piece fits)
+    ∙ ap (λ (xs : List ℕ). take 512 (drop (at - from) xs)) e
+    ∙ front_block count (at - from) (drop from image) fits ∙ ap (take 512) (drop-drop (at - from) from image)
     ∙ ap (λ (n : ℕ). take 512 (drop n image)) (let n : from + (at - from) ≡ at = omega (arith, before) in n)
