@@ -14,7 +14,8 @@ use Rattle.psz_spec.specs.declared.DumpHeader.{DumpHeader}
 use Rattle.psz_spec.specs.Headers.{word}
 use Rattle.psz_spec.specs.States.{data_of}
 use Rattle.psz_spec.specs.Records.{is_of}
-use Rattle.psz_spec.specs.Marks.{kind_of, is_whole, mark_by, mark_at, order_at, order_or, order_from, order_in, as_marks}
+use Rattle.psz_spec.specs.Marks.{kind_of, is_whole, mark_by, mark_at, order_at, order_or, order_from, order_in}
+use Rattle.psz_spec.specs.Marks.{as_marks}
 use Rattle.psz_spec.specs.Marks.{marks_from, marks_in, machine_if, machine_shown, machine_or}
 use Rattle.psz_spec.specs.Marks.{little_machine, machine_in}
 use Rattle.psz_read.proofs.Fronts.{word_front, header_front}
@@ -201,7 +202,8 @@ seen_far image i order shown marks lt s =
     let is : mark ≡ mark_at (order_in image) total at far = mark_is order total at far (order_in image) rest first in
     record {
       order_rest = first;
-      marks_rest = marks_more (order_in image) n i image marks mark (marks_in (order_in image) image) lt is s.marks_rest;
+      marks_rest = marks_more (order_in image) n i image marks mark (marks_in (order_in image) image) lt is
+          s.marks_rest;
       machine_rest = λ h.
           let little : mark ≡ mark_at Little total at far = is ∙ ap (λ (o : ByteOrder). mark_at o total at far) h in
           let more : List Mark = marks_from Little (n - (i + 1)) ((i + 1) * 512) image in
@@ -212,7 +214,8 @@ seen_far image i order shown marks lt s =
           ∙ machine_next shown mark far (little_machine image more);
     }
 
-pub seen_as : (image : List ℕ) (i : ℕ) (o p : Option ByteOrder) (m n : Option Machine) (xs ys : List Mark) → p ≡ o → n ≡ m
+pub seen_as : (image : List ℕ) (i : ℕ) (o p : Option ByteOrder) (m n : Option Machine) (xs ys : List Mark) → p ≡ o
+    → n ≡ m
     → ys ≡ xs → SeenTo image i o m xs → SeenTo image i p n ys
 seen_as image i o p m n xs ys e f g s =
     subst (λ (ms : List Mark). SeenTo image i p n ms) (sym g)

@@ -1,6 +1,6 @@
 // The headers that stand in an image at multiples of 512, read in pieces.
-ghost use Rattle.std.specs.Prelude.{◌≡◌, ℕ, ◌+◌, ◌<◌, ◌≤◌, ◌^◌, ◌++◌, Bool, true, List, [], length, take, drop, ◌↔◌, IsTrue};
-ghost use Rattle.std.specs.Prelude.{None, Option, IfOk, IfErr, OnOk, IfSome};
+ghost use Rattle.std.specs.Prelude.{◌≡◌, ℕ, ◌+◌, ◌<◌, ◌≤◌, ◌^◌, ◌++◌, Bool, true, List, [], length, take, drop};
+ghost use Rattle.std.specs.Prelude.{◌↔◌, IsTrue, None, Option, IfOk, IfErr, OnOk, IfSome};
 ghost use Rattle.psz_spec.specs.Marks.{as_marks, order_in, marks_in};
 ghost use Rattle.storage_spec.specs.Found.{machine_of};
 ghost use Rattle.outside.specs.Outside.{HasCause};
@@ -19,12 +19,7 @@ use zone_spec::ByteOrder;
 /// How many bytes are read at once.
 const PIECE: u32 = 65_536;
 
-fn order_more(
-    order: Option<ByteOrder>,
-    total: u32,
-    at: u32,
-    block: &[u8],
-) -> Option<ByteOrder>
+fn order_more(order: Option<ByteOrder>, total: u32, at: u32, block: &[u8]) -> Option<ByteOrder>
     ensures { result ≡ order_with order total at block.now }
 {
     match order {
@@ -130,12 +125,7 @@ impl Seen {
 }
 
 // Reads so many bytes from a place on to the front of these.
-fn read_front<M: Load>(
-    image: &mut M,
-    at: u32,
-    bytes: &mut [u8],
-    count: usize,
-) -> Result<(), Failed>
+fn read_front<M: Load>(image: &mut M, at: u32, bytes: &mut [u8], count: usize) -> Result<(), Failed>
     requires fits { count ≤ length bytes.old }
     requires inside { IfSome (M.holds image.old) (λ bs. at + count ≤ length bs) }
     ensures read { OnOk result (IfSome (M.holds image.old) (λ bs. take count bytes.new ≡ take count (drop at bs))) }
