@@ -49,7 +49,8 @@ pub fn mark_at(order: ByteOrder, total: u32, at: u32, bytes: &[u8]) -> Option<Ma
     }
 }
 
-/// The order in which a mark stands at a place of a storage of `total` bytes. The first 16 bytes from there on are enough.
+/// The order in which a mark stands at a place of a storage of `total` bytes, by the bytes from there on. The first 16
+/// are enough.
 #[tactic(auto, unfolding(psz_spec::specs::Marks::order_at))]
 pub fn order_at(total: u32, at: u32, bytes: &[u8]) -> Option<ByteOrder>
     ensures { result ≡ order_by total at bytes.now }

@@ -106,10 +106,11 @@ piece_filled image copy ys span k fits len inside most e =
     let front : List ℕ = take n image in
     let there : (i : ℕ) → a ≤ i → i < a + k → slice_index (put_mid a k copy ys) i ≡ slice_index front i =
     λ i from to. within a k i copy ys inside len from to ∙ read_at a k i image ys e from to
-        ∙ in_front n i image (omega (arith, inside, to)) in
+    ∙ in_front n i image (omega (arith, inside, to)) in
     record {
       keeps = λ i h. keeps_at a k front copy ys inside len there i (cases_lt i a) h;
-      has = λ i from to. reach_at a k front copy ys inside len there i span.len (length-take-le n image fits) most from to
+      has = λ i from to. reach_at a k front copy ys inside len there i span.len (length-take-le n image fits) most
+          from to
           (cases_lt i (a + k));
     }
 
@@ -160,11 +161,11 @@ range_same image copy at n len has =
     ∙ ap (λ (k : ℕ). min n (k - at)) (sym len) ∙ sym (length-take n (drop at copy) ∙ ap (λ (k : ℕ). min n k)
     (length-drop at copy)))
     (λ i h.
-        let l : length (take n (drop at image)) ≡ min n (length (drop at image)) = length-take n (drop at image) in
-        let near : i < n = omega (arith, l, h) in
-        get_or-take n (drop at image) i 0 near ∙ get_or-drop at image i 0
-        ∙ sym (has (at + i) (omega arith) (omega (arith, near)))
-        ∙ sym (get_or-take n (drop at copy) i 0 near ∙ get_or-drop at copy i 0))
+    let l : length (take n (drop at image)) ≡ min n (length (drop at image)) = length-take n (drop at image) in
+    let near : i < n = omega (arith, l, h) in
+    get_or-take n (drop at image) i 0 near ∙ get_or-drop at image i 0
+    ∙ sym (has (at + i) (omega arith) (omega (arith, near)))
+    ∙ sym (get_or-take n (drop at copy) i 0 near ∙ get_or-drop at copy i 0))
 
 span_same : (image copy : List ℕ) (span : Span) → length copy ≡ length image → HasSpan image span copy
     → span_bytes image span ≡ span_bytes copy span

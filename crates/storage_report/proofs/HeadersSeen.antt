@@ -14,7 +14,8 @@ use Rattle.psz_spec.specs.declared.DumpHeader.{DumpHeader}
 use Rattle.psz_spec.specs.Headers.{word}
 use Rattle.psz_spec.specs.States.{data_of}
 use Rattle.psz_spec.specs.Records.{is_of}
-use Rattle.psz_spec.specs.Marks.{kind_of, is_whole, mark_by, mark_at, order_at, order_or, order_from, order_in, as_marks}
+use Rattle.psz_spec.specs.Marks.{kind_of, is_whole, mark_by, mark_at, order_at, order_or, order_from, order_in}
+use Rattle.psz_spec.specs.Marks.{as_marks}
 use Rattle.psz_spec.specs.Marks.{marks_from, marks_in, machine_if, machine_shown, machine_or}
 use Rattle.psz_spec.specs.Marks.{little_machine, machine_in}
 use Rattle.psz_read.proofs.Fronts.{word_front, header_front}
@@ -201,7 +202,8 @@ seen_far image i order shown marks lt s =
     let is : mark ≡ mark_at (order_in image) total at far = mark_is order total at far (order_in image) rest first in
     record {
       order_rest = first;
-      marks_rest = marks_more (order_in image) n i image marks mark (marks_in (order_in image) image) lt is s.marks_rest;
+      marks_rest = marks_more (order_in image) n i image marks mark (marks_in (order_in image) image) lt is
+          s.marks_rest;
       machine_rest = λ h.
           let little : mark ≡ mark_at Little total at far = is ∙ ap (λ (o : ByteOrder). mark_at o total at far) h in
           let more : List Mark = marks_from Little (n - (i + 1)) ((i + 1) * 512) image in
@@ -212,7 +214,8 @@ seen_far image i order shown marks lt s =
           ∙ machine_next shown mark far (little_machine image more);
     }
 
-pub seen_as : (image : List ℕ) (i : ℕ) (o p : Option ByteOrder) (m n : Option Machine) (xs ys : List Mark) → p ≡ o → n ≡ m
+pub seen_as : (image : List ℕ) (i : ℕ) (o p : Option ByteOrder) (m n : Option Machine) (xs ys : List Mark) → p ≡ o
+    → n ≡ m
     → ys ≡ xs → SeenTo image i o m xs → SeenTo image i p n ys
 seen_as image i o p m n xs ys e f g s =
     subst (λ (ms : List Mark). SeenTo image i p n ms) (sym g)
@@ -305,10 +308,11 @@ front_block total at image h =
     ∙ take-take 512 (total - at) (drop at image) (omega (arith, h))
 
 -- and of a piece
-pub piece_block : (count from at : ℕ) (piece image : List ℕ) → piece ≡ take count (drop from image) → from ≤ at
-    → at + 512 ≤ from + count → take 512 (drop (at - from) piece) ≡ take 512 (drop at image)
+pub piece_block : (count from at : ℕ) (piece image : List ℕ) → take count piece ≡ take count (drop from image)
+    → from ≤ at → at + 512 ≤ from + count → take 512 (drop (at - from) piece) ≡ take 512 (drop at image)
 piece_block count from at piece image e before inside =
-    ap (λ (xs : List ℕ). take 512 (drop (at - from) xs)) e
-    ∙ front_block count (at - from) (drop from image) (omega (arith, before, inside))
-    ∙ ap (take 512) (drop-drop (at - from) from image)
+    let fits : (at - from) + 512 ≤ count = omega (arith, before, inside) in
+    sym (front_block count (at - from) piece fits)
+    ∙ ap (λ (xs : List ℕ). take 512 (drop (at - from) xs)) e
+    ∙ front_block count (at - from) (drop from image) fits ∙ ap (take 512) (drop-drop (at - from) from image)
     ∙ ap (λ (n : ℕ). take 512 (drop n image)) (let n : from + (at - from) ≡ at = omega (arith, before) in n)

@@ -1,5 +1,6 @@
 -- What the front of an image shows, or how sizes divide it. For `shown_storage` and `divided_storage`.
-use Rattle.std.proofs.Common.{◌≡◌, ◌∙◌, ◌≤◌, List, ℕ, Option, Some, None, length, take, ap, ap₂, refl, sym, subst, false}
+use Rattle.std.proofs.Common.{◌≡◌, ◌∙◌, ◌≤◌, List, ℕ, Option, Some, None, length, take, ap, ap₂, refl, sym}
+use Rattle.std.proofs.Common.{subst, false}
 use Rattle.std.specs.Prelude.{IfSome, Ok, Err}
 use Rattle.std.proofs.lemmas.List.{length-take-le}
 use Rattle.psz_spec.specs.declared.Machine.{Machine}

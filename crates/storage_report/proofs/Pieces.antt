@@ -1,5 +1,5 @@
 -- Pieces of an image. For `block` and `scan`.
-use Rattle.std.proofs.Common.{◌≡◌, ◌∙◌, ℕ, ◌+◌, ◌-◌, ◌*◌, ◌/◌, ◌<◌, ◌≤◌, List, [], ◌++◌, length, take, drop, sym}
+use Rattle.std.proofs.Common.{◌≡◌, ◌∙◌, ℕ, ◌+◌, ◌-◌, ◌*◌, ◌/◌, ◌<◌, ◌≤◌, List, [], ◌++◌, length, take, drop, ap, sym}
 use Rattle.std.proofs.Common.{subst, arith, true}
 use Rattle.std.specs.Prelude.{Option, Some, None, IfSome}
 use Rattle.std.proofs.lemmas.List.{length-take-le}
@@ -17,7 +17,20 @@ pub block_of : (p : Piece) (at : ℕ) (block : List ℕ) (holds : Option (List �
     → IfSome holds (λ image. block ≡ take 512 (drop at image))
 block_of p at block None e has is = tt
 block_of p at block (Some image) e has is =
-    e ∙ piece_block (length p.bytes.items) p.from at p.bytes.items image is.bytes has.from has.inside
+    e ∙ piece_block p.len p.from at p.bytes.items image is.bytes has.from has.inside
+
+no_bytes : (holds : Option (List ℕ)) (p : Piece) → p.len ≡ 0
+    → IfSome holds (λ image. take p.len p.bytes.items ≡ take p.len (drop p.from image))
+no_bytes None p none = tt
+no_bytes (Some image) p none =
+    ap (λ (n : ℕ). take n p.bytes.items) none ∙ sym (ap (λ (n : ℕ). take n (drop p.from image)) none)
+
+pub none_piece : (holds : Option (List ℕ)) (p : Piece) → p.len ≡ 0 → length p.bytes.items ≡ 65536 → IsPieceOf holds p
+none_piece holds p none room = record {
+  room = room;
+  few = omega (arith, none);
+  bytes = no_bytes holds p none;
+}
 
 -- ---- the headers of an image that tells its bytes
 

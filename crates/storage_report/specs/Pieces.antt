@@ -3,9 +3,11 @@ use Rattle.std.specs.Prelude.{◌≡◌, ℕ, ◌+◌, ◌≤◌, List, length, 
 use Rattle.storage_report.specs.declared.scanning.Piece.{Piece}
 
 pub record IsPieceOf (holds : Option (List ℕ)) (p : Piece) : Type 0 where
-  pub bytes : IfSome holds (λ image. p.bytes.items ≡ take (length p.bytes.items) (drop p.from image))
+  pub room : length p.bytes.items ≡ 65536
+  pub few : p.len ≤ 65536
+  pub bytes : IfSome holds (λ image. take p.len p.bytes.items ≡ take p.len (drop p.from image))
 
 -- the 512 bytes from a place on stand in it
 pub record HasBlock (at : ℕ) (p : Piece) : Type 0 where
   pub from : p.from ≤ at
-  pub inside : at + 512 ≤ p.from + length p.bytes.items
+  pub inside : at + 512 ≤ p.from + p.len

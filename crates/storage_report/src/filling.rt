@@ -70,7 +70,8 @@ fn fill_zone<M: Load>(
     copy: &mut [u8],
 ) -> Result<(), Stop>
     requires { IfSome (M.holds image.old) (λ bs. length copy.old ≤ length bs) }
-    ensures keeps { OnOk result (IfSome (M.holds image.old) (λ bs. Keeps (take (length copy.old) bs) copy.old copy.new)) }
+    ensures keeps { OnOk result (IfSome (M.holds image.old)
+        (λ bs. Keeps (take (length copy.old) bs) copy.old copy.new)) }
     ensures has { OnOk result (IfSome (M.holds image.old)
         (λ bs. HasZone machine (take (length copy.old) bs) copy.new zone.now)) }
     ensures err { IfErr result (λ s. FrontStop s (M.faults image.old) (M.faults image.new)) }
@@ -103,8 +104,8 @@ fn fill_zones<M: Load>(
     Ok(())
 }
 
-/// A copy of the first `total` bytes of an image: each zone's front and the logs of the listed records are read, all else
-/// is 0.
+/// A copy of the first `total` bytes of an image: each zone's front and the logs of the listed records are read, all
+/// else is 0.
 pub(crate) fn copy_of<M: Load>(
     alloc: Global,
     image: &mut M,

@@ -122,8 +122,8 @@ fn divided_storage<M: Load>(
 }
 
 /// The storage that the front of an image is, in whole pages of 4096 bytes and at most 128 MiB, if such are looked for.
-/// Nothing is read where none is. If they are looked for by their dumps, all headers are read; by given sizes only those
-/// before the first dump. Of the zones each front and the logs of the listed records are read, and nothing else is kept.
+/// Nothing is read where none is. To find the sizes all is read; if they are given, only up to the header that decides
+/// the machine. Then each zone's front is read, and the logs of the listed records.
 pub fn held_storage<M: Load>(
     alloc: Global,
     storages: Storages,

@@ -1,8 +1,9 @@
 // The headers that stand in an image at multiples of 512, read in pieces.
-ghost use Rattle.std.specs.Prelude.{◌≡◌, ℕ, ◌+◌, ◌<◌, ◌≤◌, ◌^◌, ◌++◌, Bool, true, List, [], length, take, drop, ◌↔◌, IsTrue};
-ghost use Rattle.std.specs.Prelude.{None, Option, IfOk, IfErr, OnOk, IfSome};
+ghost use Rattle.std.specs.Prelude.{◌≡◌, ℕ, ◌+◌, ◌<◌, ◌≤◌, ◌^◌, ◌++◌, Bool, true, List, [], length, take, drop};
+ghost use Rattle.std.specs.Prelude.{◌↔◌, IsTrue, None, Option, IfOk, IfErr, OnOk, IfSome};
 ghost use Rattle.psz_spec.specs.Marks.{as_marks, order_in, marks_in};
 ghost use Rattle.storage_spec.specs.Found.{machine_of};
+ghost use Rattle.outside.specs.Outside.{HasCause};
 ghost use Rattle.image_file.specs.Loading.{FrontStop};
 ghost use Rattle.storage_report.specs.Scans.{order_more as order_with, mark_more as mark_with, shown_by as shown_with};
 ghost use Rattle.storage_report.specs.Scans.{machine_more as machine_with, machine_by, is_decided};
@@ -18,12 +19,7 @@ use zone_spec::ByteOrder;
 /// How many bytes are read at once.
 const PIECE: u32 = 65_536;
 
-fn order_more(
-    order: Option<ByteOrder>,
-    total: u32,
-    at: u32,
-    block: &[u8],
-) -> Option<ByteOrder>
+fn order_more(order: Option<ByteOrder>, total: u32, at: u32, block: &[u8]) -> Option<ByteOrder>
     ensures { result ≡ order_with order total at block.now }
 {
     match order {
@@ -128,50 +124,45 @@ impl Seen {
     }
 }
 
-/// A piece of an image: its bytes from a place on.
+// Reads so many bytes from a place on to the front of these.
+fn read_front<M: Load>(image: &mut M, at: u32, bytes: &mut [u8], count: usize) -> Result<(), Failed>
+    requires fits { count ≤ length bytes.old }
+    requires inside { IfSome (M.holds image.old) (λ bs. at + count ≤ length bs) }
+    ensures read { OnOk result (IfSome (M.holds image.old) (λ bs. take count bytes.new ≡ take count (drop at bs))) }
+    ensures same { M.holds image.new ≡ M.holds image.old }
+    ensures cause { HasCause (M.faults image.old) (M.faults image.new) result }
+{
+    image.read_at(u64::from(at), &mut bytes[..count])
+}
+
+/// A piece of an image: so many bytes from a place on.
 #[derive(Drop)]
 struct Piece {
     from: u32,
+    len: u32,
     bytes: Vec<u8>,
 }
 
 impl Piece {
-    fn none(alloc: Global) -> Piece
-        ensures { (holds : Option (List ℕ)) → IsPieceOf holds result }
+    fn none(alloc: Global) -> Result<Piece, AllocError>
+        ensures { IfOk result (λ p. (holds : Option (List ℕ)) → IsPieceOf holds p) }
     {
-        Piece {
+        Ok(Piece {
             from: 0,
-            bytes: Vec::new(alloc),
-        }
-    }
-
-    fn read<M: Load>(alloc: Global, image: &mut M, at: u32, count: u32) -> Result<Piece, Stop>
-        requires { IfSome (M.holds image.old) (λ bs. at + count ≤ length bs) }
-        ensures from { IfOk result (λ p. p.from ≡ at) }
-        ensures long { IfOk result (λ p. length p.bytes.items ≡ count) }
-        ensures bytes { IfOk result (λ p. IfSome (M.holds image.old) (λ bs. p.bytes.items ≡ take count (drop at bs))) }
-        ensures err { IfErr result (λ s. FrontStop s (M.faults image.old) (M.faults image.new)) }
-        ensures done { OnOk result (M.faults image.new ≡ M.faults image.old) }
-        ensures same { M.holds image.new ≡ M.holds image.old }
-        ensures later { M.faults image.old ≤ M.faults image.new }
-    {
-        let mut bytes = Vec::from_elem(alloc, 0u8, count as usize)?;
-        match image.read_at(u64::from(at), &mut bytes) {
-            Ok(()) => Ok(Piece { from: at, bytes }),
-            Err(Failed) => Err(Stop::ImageFault),
-        }
+            len: 0,
+            bytes: vec![in alloc; 0u8; PIECE as usize]?,
+        })
     }
 
     // Whether the 512 bytes from a place on stand in it.
     fn has(&self, at: u32) -> bool
         ensures { IsTrue result ↔ HasBlock at self.now }
     {
-        self.from <= at
-            && u64::from(at) + 512 <= u64::from(self.from) + self.bytes.len() as u64
+        self.from <= at && u64::from(at) + 512 <= u64::from(self.from) + u64::from(self.len)
     }
 
     // Reads the piece from a place on, if the 512 bytes there do not stand in it.
-    fn reach<M: Load>(&mut self, alloc: Global, image: &mut M, total: u32, at: u32) -> Result<(), Stop>
+    fn reach<M: Load>(&mut self, image: &mut M, total: u32, at: u32) -> Result<(), Stop>
         requires block { at + 512 ≤ total }
         requires inside { IfSome (M.holds image.old) (λ bs. total ≤ length bs) }
         requires piece { IsPieceOf (M.holds image.old) self.old }
@@ -182,16 +173,24 @@ impl Piece {
         ensures same { M.holds image.new ≡ M.holds image.old }
         ensures later { M.faults image.old ≤ M.faults image.new }
     {
-        if !self.has(at) {
-            *self = Piece::read(alloc, image, at, PIECE.min(total - at))?;
+        if self.has(at) {
+            return Ok(());
         }
-        Ok(())
+        let count = PIECE.min(total - at);
+        match read_front(image, at, &mut self.bytes, count as usize) {
+            Ok(()) => {
+                self.from = at;
+                self.len = count;
+                Ok(())
+            }
+            Err(Failed) => Err(Stop::ImageFault),
+        }
     }
 
     // These bytes.
-    #[tactic(auto, using(crate::proofs::Pieces::block_of))]
     fn block(&self, at: u32) -> &[u8]
-        requires { HasBlock at self.now }
+        requires has { HasBlock at self.now }
+        requires full { self.now.len ≤ length self.now.bytes.items }
         ensures { (holds : Option (List ℕ)) → IsPieceOf holds self.now
             → IfSome holds (λ image. result.now ≡ take 512 (drop at image)) }
     {
@@ -218,10 +217,10 @@ pub(crate) fn scan<M: Load>(
     ensures later { M.faults image.old ≤ M.faults image.new }
 {
     let mut seen = Seen::none(alloc);
-    let mut piece = Piece::none(alloc);
+    let mut piece = Piece::none(alloc)?;
     for block in 0..total / 512 {
         let at = block * 512;
-        piece.reach(alloc, image, total, at)?;
+        piece.reach(image, total, at)?;
         seen.add(total, at, piece.block(at))?;
         if !whole && seen.is_decided() {
             return Ok(seen);

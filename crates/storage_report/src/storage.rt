@@ -39,7 +39,8 @@ impl From<AllocError> for NoStorage {
     }
 }
 
-/// A storage, and the bytes that its report needs: each zone's front and the logs of the listed records. The others are 0.
+/// A storage, and the bytes that its report needs: each zone's front and the logs of the listed records. The others
+/// are 0.
 #[derive(Drop)]
 pub struct HeldStorage {
     pub(crate) storage: Storage,

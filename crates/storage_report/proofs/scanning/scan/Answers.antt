@@ -40,5 +40,6 @@ returns-clause-machine g c =
 
 pub returns-clause-marks : goal.returns-clause-marks
 returns-clause-marks g c = λ whole.
-    all_marks (g.M.Load.holds c.args.image.now) c.args.total c.loop-block.block c.loop-block.seen (omega arith) c.requires
+    all_marks (g.M.Load.holds c.args.image.now) c.args.total c.loop-block.block c.loop-block.seen (omega arith)
+    c.requires
     c.loop-block.invariant.seen

@@ -10,4 +10,4 @@ returns c = λ holds is.
     block_of c.args.self.now c.args.at (take ((d + 512) - d) (drop d c.deref.result.now)) holds
     (ap (λ (k : ℕ). take k (drop d c.deref.result.now)) n
     ∙ ap (λ (xs : List ℕ). take 512 (drop d xs)) c.deref.ensures.value)
-    c.requires is
+    c.requires.has is
