@@ -10,3 +10,4 @@ pub mod Places
 pub mod ReasonRows
 pub mod DigitRuns
 pub mod SaidLines
+pub mod ConsoleLogs

@@ -48,14 +48,14 @@ one-unpacked most index r (Part f t) (Part g u) a b (stops, e) (too, h) =
     let same = one-stop r.content most f g t u stops too in
     e ∙ ap₂ (λ (k : TextFault) (v : List ℕ). as_it_stands r (Part k v)) same.0 same.1 ∙ sym h
 
-one-by : (zones : List Zone) (names : List ℕ) (name : Name) (r : RecordHeld) (a b : RecordShown) → IsShownBy zones names name r a
-    → IsShownBy zones names name r b → a ≡ b
-one-by zones names (Dump index true) r a b is other =
+one-by : (zones : List Zone) (names : List ℕ) (shift : ℕ) (name : Name) (r : RecordHeld) (a b : RecordShown)
+    → IsShownBy zones names shift name r a → IsShownBy zones names shift name r b → a ≡ b
+one-by zones names shift (Dump index true) r a b is other =
     one-unpacked (most_of zones index) index r a.packing b.packing a b is other
-one-by zones names (Dump index false) r a b is other = is ∙ sym other
-one-by zones names Console r a b is other = is ∙ sym other
-one-by zones names Pmsg r a b is other = is ∙ sym other
-one-by zones names Ftrace r a b is other = is ∙ sym other
+one-by zones names shift (Dump index false) r a b is other = is ∙ sym other
+one-by zones names shift Console r a b is other = is ∙ sym other
+one-by zones names shift Pmsg r a b is other = is ∙ sym other
+one-by zones names shift Ftrace r a b is other = is ∙ sym other
 
 pub one_shown : OneShown
-one_shown zones names r a b is other = one-by zones names r.name r a b is other
+one_shown zones names shift r a b is other = one-by zones names shift r.name r a b is other

@@ -5,5 +5,5 @@ use Rattle.zone_spec.specs.RecordsHeld.{RecordHeld}
 use Rattle.report_spec.specs.Packed.{RecordShown, IsShown}
 
 abbrev pub OneShown : Type 0
-OneShown = (zones : List Zone) (names : List ℕ) (r : RecordHeld) (a b : RecordShown) → IsShown zones names r a
-    → IsShown zones names r b → a ≡ b
+OneShown = (zones : List Zone) (names : List ℕ) (shift : ℕ) (r : RecordHeld) (a b : RecordShown)
+    → IsShown zones names shift r a → IsShown zones names shift r b → a ≡ b

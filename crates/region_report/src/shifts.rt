@@ -1,18 +1,28 @@
 // How far above its map the kernel ran that traced its functions.
 ghost use Rattle.std.specs.Prelude.{◌≡◌};
-ghost use Rattle.report_spec.specs.Said.{console_in, offset_said, shift_in};
+ghost use Rattle.report_spec.specs.Newest.{is_console};
+ghost use Rattle.report_spec.specs.Said.{console_in, shift_in};
 
 use crate::facts::said_after;
 use pstore_records::HeldRecord;
 use symbols::Symbols;
 use zone_spec::Name;
 
+fn is_console(held: &HeldRecord) -> bool
+    ensures { result ≡ is_console held.now.name }
+{
+    match held.name {
+        Name::Console => true,
+        Name::Dump { .. } | Name::Pmsg | Name::Ftrace => false,
+    }
+}
+
 /// The console's log.
 fn console_in(records: &[HeldRecord]) -> &[u8]
     ensures { result.now ≡ console_in records.now }
 {
     for held in records {
-        if let Name::Console = held.name {
+        if is_console(held) {
             return held.content();
         }
     }

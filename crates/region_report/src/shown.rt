@@ -263,8 +263,8 @@ fn shown_by(
     Ok(all)
 }
 
-/// The records of a layout's zones as they are shown with the functions of a map, in order. A kernel that ran above the map,
-/// as the console says, has its functions by that. Takes time linear in their bytes and texts.
+/// The records of a layout's zones as they are shown with the functions of a map, in order. Of a kernel that ran above
+/// its map, as the console says, functions are found by that. Takes time linear in their bytes and texts.
 pub fn shown_records(
     alloc: Global,
     zones: &[Zone],

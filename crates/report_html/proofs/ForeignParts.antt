@@ -82,7 +82,7 @@ use Rattle.report_html.specs.Reads.{counted_parts, number_parts, clean_parts, re
 use Rattle.report_spec.specs.declared.Warning.{Warning}
 use Rattle.report_spec.specs.declared.Warning.TheVariants.{ConsoleTells, BadTeller, BadHeaders, NoLog, ManyBad}
 use Rattle.region_report.specs.Warned.{warnings_by}
-use Rattle.report_html.specs.Warnings.{warning_parts, warnings_parts}
+use Rattle.report_html.specs.Warnings.{warning_parts, better_parts, warnings_parts}
 use Rattle.report_html.specs.Escaping.{foreign_in, foreign_of, HoldBytes, TellsBytes, EndsBytes, AreMachineBytes}
 use Rattle.report_html.specs.Escaping.{AreDeathBytes, AllTellBytes, foreign_by, IsWithoutMarkup}
 use Rattle.report_html.specs.Order.{newest_first}
@@ -478,6 +478,10 @@ of-warning (ManyBad bad) = refl
 of-warnings : (report : ReportHeld) (told : Option DeathTold) → foreign_of (warnings_parts report told) ≡ []
 of-warnings report told = none-of warning_parts of-warning (warnings_by report told)
 
+of-better : (better : List ℕ) → foreign_of (better_parts better) ≡ some_bytes better
+of-better [] = refl
+of-better (b ∷ bs) = refl
+
 -- ---- the table of dumps has telling lines
 
 of-cell : (time : Option Time) → foreign_of (time_cell time) ≡ []
@@ -547,13 +551,15 @@ of-opening title signature records told =
     (of-why records told)
     ∙ append_assoc n (title ∷ []) (why_bytes told)
 
-of-page : (title : List ℕ) (p : Division) (zones : List Zone) (report : ReportHeld) (signature : List ℕ)
-    (told : Option DeathTold) → foreign_of (page_with title p zones report signature told)
-    ≡ foreign_by title signature report.records told
-of-page title p zones report signature told =
+of-page : (title : List ℕ) (p : Division) (zones : List Zone) (report : ReportHeld) (better signature : List ℕ)
+    (told : Option DeathTold) → foreign_of (page_with title p zones report better signature told)
+    ≡ foreign_by title better signature report.records told
+of-page title p zones report better signature told =
     let opening : List Part = heading_parts title (named_parts signature report.records told)
     ++ why_parts report.records told in
     let warned : List Part = warnings_parts report told in
+    let betters : List Part = better_parts better in
+    let b : List (List ℕ) = some_bytes better in
     let died : List Part = died_parts signature (saved report.logs) report.records told in
     let opened : List Part = records_opening (length report.records) in
     let causes : List Part = causes_parts report.records in
@@ -566,17 +572,18 @@ of-page title p zones report signature told =
     let teller : Option Name = teller_name told in
     let m : List (List ℕ) = flat_map (record_bytes teller) ordered in
     let number : Option ℕ = unfolded (newest report.records) told in
-    and-none (opening ++ warned ++ died ++ opened ++ causes ++ records ++ drawn ++ parameters_parts p)
-    (Words END.now ∷ []) (w ++ d ++ l ++ m)
-    (and-none (opening ++ warned ++ died ++ opened ++ causes ++ records ++ drawn) (parameters_parts p)
-    (w ++ d ++ l ++ m)
-    (and-none (opening ++ warned ++ died ++ opened ++ causes ++ records) drawn (w ++ d ++ l ++ m)
-    (and-of (opening ++ warned ++ died ++ opened ++ causes) records (w ++ d ++ l) m
-    (and-of (opening ++ warned ++ died ++ opened) causes (w ++ d) l
-    (and-none (opening ++ warned ++ died) opened (w ++ d)
-    (and-of (opening ++ warned) died w d
+    and-none (opening ++ warned ++ betters ++ died ++ opened ++ causes ++ records ++ drawn ++ parameters_parts p)
+    (Words END.now ∷ []) (w ++ b ++ d ++ l ++ m)
+    (and-none (opening ++ warned ++ betters ++ died ++ opened ++ causes ++ records ++ drawn) (parameters_parts p)
+    (w ++ b ++ d ++ l ++ m)
+    (and-none (opening ++ warned ++ betters ++ died ++ opened ++ causes ++ records) drawn (w ++ b ++ d ++ l ++ m)
+    (and-of (opening ++ warned ++ betters ++ died ++ opened ++ causes) records (w ++ b ++ d ++ l) m
+    (and-of (opening ++ warned ++ betters ++ died ++ opened) causes (w ++ b ++ d) l
+    (and-none (opening ++ warned ++ betters ++ died) opened (w ++ b ++ d)
+    (and-of (opening ++ warned ++ betters) died (w ++ b) d
+    (and-of (opening ++ warned) betters w b
     (and-none opening warned w (of-opening title signature report.records told)
-    (of-warnings report told)) (of-died signature (saved report.logs) report.records told)) refl) (of-causes (crashes_of report.records)))
+    (of-warnings report told)) (of-better better)) (of-died signature (saved report.logs) report.records told)) refl) (of-causes (crashes_of report.records)))
     (of-records (saved report.logs) (are_grouped ordered) number teller 0 None ordered)) (of-picture zones report))
     (of-parameters p)) refl
 
@@ -857,29 +864,33 @@ joins-causes records h = by (nat_lt 1 (length (crashes_of records)))
         (lines-take 15 (firsts_of (crashes_of records)) (lines-firsts (crashes_of records) [] tt (lines-told records h)))
     by false = joins-none
 
-pub without_markup : (title : List ℕ) (p : Division) (zones : List Zone) (report : ReportHeld) (page : List ℕ)
-    → AreBytes title → HoldBytes report.records
+pub without_markup : (title : List ℕ) (p : Division) (zones : List Zone) (report : ReportHeld) (better page : List ℕ)
+    → AreBytes title → AreBytes better → HoldBytes report.records
     → AllTellBytes (signature_told (death_told report.records)) report.records (death_told report.records)
-    → page ≡ parts_text report.origin (page_parts title p zones report) → IsWithoutMarkup title report.records page
-without_markup title p zones report page bytes hold tells is =
+    → page ≡ parts_text report.origin (page_parts title p zones report better)
+    → IsWithoutMarkup title better report.records page
+without_markup title p zones report better page bytes words hold tells is =
     let told : Option DeathTold = death_told report.records in
     let signature : List ℕ = signature_told told in
     let n : List (List ℕ) = title ∷ name_bytes signature told in
     let w : List (List ℕ) = title ∷ why_bytes told in
     let d : List (List ℕ) = died_bytes signature report.records told in
     let l : List (List ℕ) = causes_bytes report.records in
-    let foreign = of-page title p zones report signature told in
+    let b : List (List ℕ) = some_bytes better in
+    let foreign = of-page title p zones report better signature told in
     record {
       origin = report.origin;
-      parts = page_parts title p zones report;
+      parts = page_parts title p zones report better;
       page_is = is;
       foreign = foreign;
       texts = subst EscapeToTexts (sym foreign)
-          (joins-and (n ++ w ++ d) l
-          (joins-and (n ++ w) d
+          (joins-and (n ++ w ++ b ++ d) l
+          (joins-and (n ++ w ++ b) d
+          (joins-and (n ++ w) b
           (joins-and n w
           (joins-onto title (name_bytes signature told) bytes (joins-name signature report.records told tells))
           (joins-onto title (why_bytes told) bytes (joins-why signature report.records told tells)))
+          (joins-some better words))
           (joins-died signature report.records told tells)) (joins-causes report.records hold)
           (flat_map (record_bytes (teller_name told)) (newest_first report.records))
           (texts-of (teller_name told) (newest_first report.records) (held-in-order report.records hold)));

@@ -11,6 +11,7 @@ use Rattle.report_spec.specs.Facts.{MachineTold, machine_of, machine_ended, sign
 use Rattle.report_html.specs.Before.{told_before}
 use Rattle.report_html.specs.Died.{why_bytes, died_bytes}
 use Rattle.report_html.specs.Causes.{causes_bytes}
+use Rattle.report_html.specs.Facts.{some_bytes}
 use Rattle.report_html.specs.Listed.{teller_name, record_bytes}
 use Rattle.report_html.specs.Order.{newest_first}
 use Rattle.report_html.specs.Pages.{name_bytes}
@@ -67,22 +68,24 @@ abbrev pub AllTellBytes : List ℕ → List RecordShown → Option DeathTold →
 AllTellBytes signature records None = EndsBytes (end_told records)
 AllTellBytes signature records (Some t) = AreDeathBytes signature records t
 
--- what comes from elsewhere: the title and the signature, which name the page, the title, parts of the texts that tell
--- why the machine died and what was before it, the telling lines of dumps, and of each record, the newest first, parts
--- of its summary and what people read of it. Of the record that tells this stands once, with why the machine died
-abbrev pub foreign_by : List ℕ → List ℕ → List RecordShown → Option DeathTold → List (List ℕ)
-foreign_by title signature records told =
-    title ∷ name_bytes signature told ++ title ∷ why_bytes told ++ died_bytes signature records told
+-- what comes from elsewhere: the title and the signature, which name the page, the title, the telling lines, the words
+-- of a layout that explains the image better, parts of the texts that tell why the machine died and what was before it,
+-- the telling lines of dumps, and of each record, the newest first, parts of its summary and what people read of it. Of
+-- the record that tells this stands once, with why the machine died
+abbrev pub foreign_by : (title better signature : List ℕ) → List RecordShown → Option DeathTold → List (List ℕ)
+foreign_by title better signature records told =
+    title ∷ name_bytes signature told ++ title ∷ why_bytes told ++ some_bytes better
+    ++ died_bytes signature records told
     ++ causes_bytes records ++ flat_map (record_bytes (teller_name told)) (newest_first records)
 
-abbrev pub foreign_told : List ℕ → List RecordShown → Option DeathTold → List (List ℕ)
-foreign_told title records told = foreign_by title (signature_told told) records told
+abbrev pub foreign_told : (title better : List ℕ) → List RecordShown → Option DeathTold → List (List ℕ)
+foreign_told title better records told = foreign_by title better (signature_told told) records told
 
 -- a page whose foreign bytes are those, each escaped to text without markup. All else are the page's own words and
 -- numbers
-pub record IsWithoutMarkup (title : List ℕ) (records : List RecordShown) (page : List ℕ) : Type 0 where
+pub record IsWithoutMarkup (title better : List ℕ) (records : List RecordShown) (page : List ℕ) : Type 0 where
   pub origin : Origin
   pub parts : List Part
   pub page_is : page ≡ parts_text origin parts
-  pub foreign : foreign_of parts ≡ foreign_told title records (death_told records)
+  pub foreign : foreign_of parts ≡ foreign_told title better records (death_told records)
   pub texts : All (λ (bytes : List ℕ). IsText (escaped bytes)) (foreign_of parts)

@@ -20,7 +20,7 @@ use Rattle.report_html.specs.declared.words.TheConstants.{HEAD, NAVIGATION, LEVE
 use Rattle.report_html.specs.Pieces.{Part, Words, Count, Bytes, Moment, Log, Named, Link, parts_text}
 use Rattle.report_html.specs.Ended.{words_of}
 use Rattle.report_html.specs.Died.{why_parts, died_parts}
-use Rattle.report_html.specs.Warnings.{warnings_parts}
+use Rattle.report_html.specs.Warnings.{warnings_parts, better_parts}
 use Rattle.report_html.specs.Reads.{read_parts}
 use Rattle.report_html.specs.Parameters.{parameters_parts}
 use Rattle.report_html.specs.Listed.{say_parts, head_parts, mark_parts, fold_parts, is_unfolded, unfolded}
@@ -113,19 +113,24 @@ heading_parts title named =
 
 -- the heading, why the machine died, the dumps by telling line, the records, the picture of the zones, and the
 -- parameters
-abbrev pub page_with : List ℕ → Division → List Zone → ReportHeld → List ℕ → Option DeathTold → List Part
-page_with title division zones report signature told =
+abbrev pub page_with : List ℕ → Division → List Zone → ReportHeld → (better signature : List ℕ) → Option DeathTold
+    → List Part
+page_with title division zones report better signature told =
     heading_parts title (named_parts signature report.records told) ++ why_parts report.records told
-    ++ warnings_parts report told ++ died_parts signature (saved report.logs) report.records told
+    ++ warnings_parts report told ++ better_parts better ++ died_parts signature (saved report.logs) report.records told
     ++ records_opening (length report.records) ++ causes_parts report.records ++ list_parts report told
     ++ picture zones report ++ parameters_parts division ++ Words END.now ∷ []
 
-abbrev pub page_by : List ℕ → Division → List Zone → ReportHeld → Option DeathTold → List Part
-page_by title division zones report told = page_with title division zones report (signature_told told) told
+abbrev pub page_by : List ℕ → Division → List Zone → ReportHeld → (better : List ℕ) → Option DeathTold → List Part
+page_by title division zones report better told =
+    page_with title division zones report better (signature_told told) told
 
-abbrev pub page_parts : List ℕ → Division → List Zone → ReportHeld → List Part
-page_parts title division zones report = page_by title division zones report (death_told report.records)
+abbrev pub page_parts : List ℕ → Division → List Zone → ReportHeld → (better : List ℕ) → List Part
+page_parts title division zones report better =
+    page_by title division zones report better (death_told report.records)
 
--- the page under this title of the report of these zones, divided so
-unfoldable pub page_of : List ℕ → Division → List Zone → ReportHeld → List ℕ
-page_of title division zones report = parts_text report.origin (page_parts title division zones report)
+-- the page under this title of the report of these zones, divided so, with the words of a layout that explains the
+-- image better
+unfoldable pub page_of : List ℕ → Division → List Zone → ReportHeld → (better : List ℕ) → List ℕ
+page_of title division zones report better =
+    parts_text report.origin (page_parts title division zones report better)

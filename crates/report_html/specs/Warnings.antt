@@ -7,7 +7,7 @@ use Rattle.report_spec.specs.Deaths.{DeathTold}
 use Rattle.region_report.specs.Reports.{ReportHeld}
 use Rattle.region_report.specs.Warned.{warnings_by}
 use Rattle.report_html.specs.declared.words.TheConstants.{OPENING, CLOSING, BAD_TELLER, NO_LOG, MANY_BAD}
-use Rattle.report_html.specs.Pieces.{Part, Words, Count, Link}
+use Rattle.report_html.specs.Pieces.{Part, Words, Count, Bytes, Link}
 
 abbrev pub warned : List ℕ → List Part
 warned said = Words OPENING.now ∷ Words said ∷ Words CLOSING.now ∷ []
@@ -30,6 +30,13 @@ warning_parts (BadTeller bad) = warned BAD_TELLER.now
 warning_parts (BadHeaders count) = bad_headers count
 warning_parts NoLog = warned NO_LOG.now
 warning_parts (ManyBad bad) = warned MANY_BAD.now
+
+-- the words of a layout that explains the image better, if there are any
+abbrev pub better_parts : List ℕ → List Part
+better_parts [] = []
+better_parts (b ∷ bs) =
+    Words OPENING.now ∷ Words (codes "Another layout explains it better; give only these words: ") ∷ Bytes (b ∷ bs)
+    ∷ Words CLOSING.now ∷ []
 
 -- the warnings of a report, in which this tells why the machine died
 abbrev pub warnings_parts : ReportHeld → Option DeathTold → List Part

@@ -24,7 +24,7 @@ use crate::picture::add_picture;
 use crate::pieces::{Piece, add, render};
 use crate::reads::add_read;
 use crate::style::STYLE;
-use crate::warnings::add_warnings;
+use crate::warnings::{add_better, add_warnings};
 use crate::words::{END, HEAD, LEVELS, NAVIGATION};
 use outside::Bytes;
 use prz_read::Logs;
@@ -286,18 +286,21 @@ fn all_pieces<'a>(
     division: &Division,
     zones: &[Zone],
     report: &'a Report,
+    better: &'a [u8],
     signature: &'a [u8],
     told: Option<Telling<'a>>,
 ) -> Result<Vec<Piece<'a>>, AllocError>
     ensures bytes { OnOk result (HoldBytes report.entry.now.records) }
     ensures tells { OnOk result (AllTellBytes signature.entry.now report.entry.now.records (told_in told.entry)) }
     ensures parts { IfOk result (λ pieces. parts pieces.items
-        ≡ page_with title.entry.now division.now zones.now report.entry.now signature.entry.now (told_in told.entry)) }
+        ≡ page_with title.entry.now division.now zones.now report.entry.now better.entry.now signature.entry.now
+        (told_in told.entry)) }
 {
     let mut pieces = Vec::new(alloc);
     add_heading(&mut pieces, title, signature, report.records(), told)?;
     add_why(&mut pieces, report.records(), told)?;
     add_warnings(alloc, &mut pieces, report, told)?;
+    add_better(&mut pieces, better)?;
     add_died(
         &mut pieces,
         signature,
@@ -314,17 +317,19 @@ fn all_pieces<'a>(
     Ok(pieces)
 }
 
-/// The page of the report of these zones, divided so, in ASCII. `title` is what it is headed with, such as the
-/// image's path. All bytes that come from the image or the title are escaped, and so make no markup.
+/// The page of the report of these zones, divided so, in ASCII. `title` is what it is headed with, such as the image's
+/// path, and `better` are the words of a layout that explains the image better. All bytes that come from the image, the
+/// title or these words are escaped, and so make no markup.
 pub fn html(
     alloc: Global,
     title: &[u8],
     division: &Division,
     zones: &[Zone],
     report: &Report,
+    better: &[u8],
 ) -> Result<Vec<u8>, AllocError>
-    ensures page { IfOk result (λ text. text.items ≡ page_of title.now division.now zones.now report.now) }
-    ensures no_markup { IfOk result (λ text. IsWithoutMarkup title.now report.now.records text.items) }
+    ensures page { IfOk result (λ text. text.items ≡ page_of title.now division.now zones.now report.now better.now) }
+    ensures no_markup { IfOk result (λ text. IsWithoutMarkup title.now better.now report.now.records text.items) }
 {
     let told = death_told(report.records());
     let signature = signature_of(alloc, told)?;
@@ -334,6 +339,7 @@ pub fn html(
         division,
         zones,
         report,
+        better,
         signature.as_slice(),
         told,
     )?;

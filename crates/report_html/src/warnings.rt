@@ -2,7 +2,7 @@
 ghost use Rattle.std.specs.Prelude.{◌≡◌, ◌++◌, flat_map, OnOk};
 ghost use Rattle.region_report.specs.Tellers.{told_in};
 ghost use Rattle.report_html.specs.Pieces.{parts};
-ghost use Rattle.report_html.specs.Warnings.{warned, lacking, bad_headers, warning_parts, warnings_parts};
+ghost use Rattle.report_html.specs.Warnings.{warned, lacking, bad_headers, warning_parts, better_parts, warnings_parts};
 
 use crate::pieces::{Piece, add};
 use crate::words::{BAD_TELLER, CLOSING, MANY_BAD, NO_LOG, OPENING};
@@ -71,6 +71,24 @@ fn add_each(pieces: &mut Vec<Piece<'_>>, warnings: &[Warning]) -> Result<(), All
         add_warning(pieces, *warning)?;
     }
     Ok(())
+}
+
+/// Adds the words of a layout that explains the image better, if there are any.
+pub fn add_better<'a>(pieces: &mut Vec<Piece<'a>>, better: &'a [u8]) -> Result<(), AllocError>
+    ensures { OnOk result (parts pieces.new.items ≡ parts pieces.old.items ++ better_parts better.entry.now) }
+{
+    if better.is_empty() {
+        return Ok(());
+    }
+    add(
+        pieces,
+        &[
+            Piece::Own(OPENING),
+            Piece::Own("Another layout explains it better; give only these words: "),
+            Piece::Foreign(better),
+            Piece::Own(CLOSING),
+        ],
+    )
 }
 
 /// Adds the warnings of a report in which this tells why the machine died.

@@ -282,6 +282,11 @@ fn words_that_are_wrong(rt: HostRuntime) -> Result<(), Fail> {
             Format::Json,
             "{\"better\":\"record_size=0 console_size=4096 ftrace_size=0 pmsg_size=0 ecc=0\",",
         ),
+        (
+            Format::Html,
+            "<p class=\"warn\"><b>Read with care.</b> Another layout explains it better; give only these words: \
+record_size=0 console_size=4096 ftrace_size=0 pmsg_size=0 ecc=0</p>\n",
+        ),
     ] {
         let shown = misled(rt.alloc(), format)?;
         assert!(rt; str::from_utf8(&shown)?.contains(piece));

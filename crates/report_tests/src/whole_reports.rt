@@ -101,6 +101,7 @@ pub fn page_of(
         &Division::Region(*params),
         zones.zones(),
         report,
+        b"",
     )?)
 }
 

@@ -37,11 +37,11 @@ pub record IsJsonLine (path : List ℕ) (division : Division) (zones : List Zone
   pub text_is : text ≡ line ++ 10 ∷ []
 
 -- a report of zones, divided so, with so many lines of the newest dump in a text, and with the words of a layout that
--- explains the image better, which text and JSON show
+-- explains the image better, which all but a brief line show
 abbrev pub ShowsZones : Format → List ℕ → Division → List Zone → ℕ → List ℕ → ReportHeld → List ℕ → Type 0
 ShowsZones Text path division zones lines better report text = IsVisibleText path lines better report text
 ShowsZones Json path division zones lines better report text = IsJsonLine path division zones better report text
-ShowsZones Html path division zones lines better report text = text ≡ page_of path division zones report
+ShowsZones Html path division zones lines better report text = text ≡ page_of path division zones report better
 ShowsZones Brief path division zones lines better report text = IsBriefLine path report text
 
 -- a report of a plan's zones

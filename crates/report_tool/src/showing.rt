@@ -41,7 +41,7 @@ fn json_line(
 }
 
 /// The report of zones, divided so, of the image at `path`, written in a format. A text has so many lines of the newest
-/// dump. `better` are the words of a layout that explains the image better; a text and JSON
+/// dump. `better` are the words of a layout that explains the image better; all but a brief line
 /// show them.
 pub fn shown_zones(
     alloc: Global,
@@ -70,7 +70,14 @@ pub fn shown_zones(
             Ok(bytes.into_vec())
         }
         Format::Json => json_line(alloc, division, zones, path, report, better),
-        Format::Html => html(alloc, path.as_bytes(), division, zones, report),
+        Format::Html => html(
+            alloc,
+            path.as_bytes(),
+            division,
+            zones,
+            report,
+            better.as_bytes(),
+        ),
         Format::Brief => {
             let bytes = brief(alloc, path.as_bytes(), report)?;
             Ok(bytes.into_vec())

@@ -18,7 +18,7 @@ unfolding page_of
 returns-clause-page c =
     let origin : Origin = c.args.report.now.origin in
     let by : List ℕ → Option DeathTold → List Part =
-    λ s t. page_with c.args.title.now c.args.division.now c.args.zones.now c.args.report.now s t in
+    λ s t. page_with c.args.title.now c.args.division.now c.args.zones.now c.args.report.now c.args.better.now s t in
     c.in_ok-text.ensures
     ∙ ap (λ (o : Origin). parts_text o (parts c.as_slice-2.result.now)) c.origin.ensures
     ∙ ap (λ (ps : List Piece). parts_text origin (parts ps)) c.as_slice-2.ensures.value
@@ -38,7 +38,7 @@ returns-clause-no_markup c =
     let signed : AllTellBytes (signature_told told) records told =
     subst (λ (s : List ℕ). AllTellBytes s records told) (c.as_slice.ensures.value ∙ c.in_ok-signature.ensures)
     c.in_ok-pieces.ensures.tells in
-    without_markup c.args.title.now c.args.division.now c.args.zones.now c.args.report.now c.in_ok-text.text.items
-    (λ i. (c.type_inv.title i).fits) c.in_ok-pieces.ensures.bytes
+    without_markup c.args.title.now c.args.division.now c.args.zones.now c.args.report.now c.args.better.now
+    c.in_ok-text.text.items (λ i. (c.type_inv.title i).fits) (λ i. (c.type_inv.better i).fits) c.in_ok-pieces.ensures.bytes
     (subst (λ (t : Option DeathTold). AllTellBytes (signature_told t) records t) same signed)
     (returns-clause-page c)
