@@ -62,7 +62,7 @@ fn doubts<'a>(rt: &impl Abort, report: &'a Report) -> &'a [bool] {
 fn assert_doubts(rt: &impl Abort, doubts: &[bool], from: usize, to: usize, doubtful: bool) {
     let between = doubts_between(doubts, from, to);
     assert!(rt; between.len() == to.saturating_sub(from));
-    assert!(rt; between.iter().all(|doubt| *doubt == doubtful), "{from} to {to}");
+    assert!(rt; between.iter().all(|doubt| *doubt == doubtful));
 }
 
 #[test]
