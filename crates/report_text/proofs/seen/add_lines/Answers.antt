@@ -1,5 +1,5 @@
 -- One line more, and none is left at the end. For `add_lines`.
-use Rattle.std.proofs.Common.{List, ◌++◌, ◌∙◌, ap, sym, append_assoc, append-nil}
+use Rattle.std.proofs.Common.{ℕ, List, ◌++◌, ◌∙◌, ap, sym, append_assoc, append-nil}
 use Rattle.std.specs.Prelude.{flat_map}
 use Rattle.death_spec.specs.declared.Line.{Line}
 use Rattle.death_spec.specs.Lines.{lines_from}
