@@ -18,7 +18,8 @@ pub const LEVELS: &str = "</h2>\n<ul class=\"legend log\">\n\
 <li><i class=\"l4\">&lt;4&gt; warning</i></li>\n<li><i class=\"l5\">&lt;5&gt; notice</i></li>\n\
 <li>&lt;6&gt; info</li>\n<li><i class=\"l7\">&lt;7&gt; debug</i></li>\n</ul>\n\
 <p class=\"note\">The number before a line is its level. A line with a number of 8 or more comes from user space, and \
-has no bar. The console keeps no levels. A line with a wavy underline has bytes in a bad block: they can be wrong.</p>\n";
+has no bar. The console keeps no levels. A line with a wavy underline has bytes in a bad block: they can be wrong.\
+</p>\n";
 
 pub const END: &str =
     "</main>\n<footer>\n<p>Times are UTC. Text of the region is printable ASCII, tabs and newlines; \

@@ -62,7 +62,7 @@ fn doubts<'a>(rt: &impl Abort, report: &'a Report) -> &'a [bool] {
 fn assert_doubts(rt: &impl Abort, doubts: &[bool], from: usize, to: usize, doubtful: bool) {
     let between = doubts_between(doubts, from, to);
     assert!(rt; between.len() == to.saturating_sub(from));
-    assert!(rt; between.iter().all(|doubt| *doubt == doubtful), "{from} to {to}");
+    assert!(rt; between.iter().all(|doubt| *doubt == doubtful));
 }
 
 #[test]
@@ -90,7 +90,9 @@ fn no_bad_block(rt: HostRuntime) -> Result<(), Fail> {
 // A console zone of 256 bytes, with two blocks of which the second has 68 bytes.
 const SMALL: Params = Params {
     console: 256,
-    ..console(16)
+    ecc: 16,
+    ecc_console: 16,
+    ..BARE
 };
 
 // A full ring of 196 zeros that begins at 150; its second block is bad. Of the log this is the front, and the bytes

@@ -348,7 +348,7 @@ fn telling_lines_of_the_list(rt: HostRuntime) -> Result<(), Fail> {
 // Two dumps with one line share a row, and one without a line has a row of its own.
 #[test]
 fn dumps_by_telling_line(rt: HostRuntime) -> Result<(), Fail> {
-    let table = "levels.</p>
+    let table = "can be wrong.</p>
 <div class=\"scroll\" tabindex=\"0\" role=\"region\" aria-label=\"Dumps by telling line\">\
 <table class=\"grid stack\">
 <caption>Dumps by telling line</caption>
