@@ -41,7 +41,8 @@ abbrev pub module_text : List ℕ → Option Symbol → List ℕ
 module_text map None = []
 module_text map (Some s) = spaced (module_at map s.name)
 
--- the function of an address (`%ps`) of a kernel that runs so far above the map; without one the kernel shows the address
+-- the function of an address (`%ps`) of a kernel that runs so far above the map; without one the kernel shows the
+-- address
 unfoldable pub function_text : List ℕ → (shift address : ℕ) → List ℕ
 function_text map shift address =
     bare_text map address (function_above map shift address) ++ module_text map (function_above map shift address)

@@ -151,7 +151,8 @@ fn push_line(
     shift: u64,
     entry: &Entry,
 ) -> Result<(), AllocError>
-    ensures { OnOk result (out.new.items ≡ out.old.items ++ line_text symbols.now shift (entry_bytes entry.now)) }
+    ensures { OnOk result (out.new.items
+        ≡ out.old.items ++ line_text symbols.now shift (entry_bytes entry.now)) }
 {
     push_words(out, symbols, shift, entry.addr, entry.parent, entry.word)
 }
