@@ -23,8 +23,8 @@ use death::part;
 use death_spec::{Death, Line, Span};
 use prz_read::Logs;
 use region_report::{
-    RecordReport, Telling, below, console, doubts_between, end_told, has_telling_line, machine_told, place_above,
-    uptime,
+    RecordReport, Telling, below, console, doubts_between, end_told, has_telling_line,
+    machine_told, place_above, uptime,
 };
 use std::alloc::AllocError;
 use zone_spec::Name;
@@ -162,10 +162,7 @@ fn add_log<'a>(
 {
     add(
         pieces,
-        &[Piece::Log(
-            doubts_between(doubts, from, to),
-            part(text, from, to),
-        )],
+        &[Piece::Log(doubts_between(doubts, from, to), part(text, from, to))],
     )
 }
 

@@ -90,12 +90,7 @@ fn push_coloured(
     out.extend_from_slice(b"</i>")
 }
 
-fn push_line(
-    out: &mut Vec<u8>,
-    doubts: &[bool],
-    text: &[u8],
-    line: Line,
-) -> Result<(), AllocError>
+fn push_line(out: &mut Vec<u8>, doubts: &[bool], text: &[u8], line: Line) -> Result<(), AllocError>
     ensures { OnOk result (out.new.items ≡ out.old.items ++ text_of_line doubts.now text.now line) }
 {
     let bytes = part(text, line.start, line.next);

@@ -68,7 +68,7 @@ last_doubts n doubts = drop (length doubts - n) doubts
 abbrev pub with_doubts : List Zone → List Saved → List PartStates → RecordShown → RecordShown
 with_doubts layout zones parts r = record r {
   doubts = last_doubts (length r.content - r.notice)
-      (zone_doubts layout zones parts (zone_place layout r.packing r.name))
+      (zone_doubts layout zones parts (zone_place layout r.packing r.name));
 }
 
 -- ---- of a range of a text

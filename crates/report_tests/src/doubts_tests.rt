@@ -7,7 +7,8 @@ use std::process::Abort;
 use std::test::Fail;
 
 // A console that ends in block 2; the second, third and fourth line have bytes in block 1.
-const LINES: &[u8] = b"[    1.000000] aaaaaaaaaaaaaaaaaaaaaaaaaaaaaaaaaaaaaaaaaaaaaaaaaaaaaaaaaaaa\n\
+const LINES: &[u8] =
+    b"[    1.000000] aaaaaaaaaaaaaaaaaaaaaaaaaaaaaaaaaaaaaaaaaaaaaaaaaaaaaaaaaaaa\n\
 [    2.000000] bbbbbbbbbbbbbbbbbbbbbbbbbbbbbbbbbbbbbbbbbbbbbbbbbbbbbbbbbbbb\n\
 [    3.000000] Kernel panic - not syncing: c\n\
 [    4.000000] dddddddddddddddddddddddddddddddddddddddddddddddddddddddddddd\n\
@@ -146,7 +147,12 @@ fn a_text_without_marks(rt: HostRuntime) -> Result<(), Fail> {
     let image = image_of(rt.alloc(), &PARITY_OF_BLOCK_1)?;
     let text = text_on(rt.alloc(), b"a", &console(16), image)?;
     assert!(rt; !has(text.as_slice(), "~")?);
-    assert!(rt; has(text.as_slice(), "\n> [    3.000000] Kernel panic - not syncing: c\n")?);
+    assert!(rt;
+        has(
+            text.as_slice(),
+            "\n> [    3.000000] Kernel panic - not syncing: c\n"
+        )?
+    );
     Ok(())
 }
 
