@@ -116,7 +116,8 @@ fn trace_with_functions(rt: HostRuntime) -> Result<(), Fail> {
 const MOVED: &[u8] =
     b"\0\x10\0\x82\xff\xff\xff\xff\x1f \0\x82\xff\xff\xff\xff\0g\x12\0\0\0\0\0\x10\0\0\0\0\0\0\0\0\0\0\0\0\0\0\0\x03h\x12\0\0\0\0\0";
 
-const LINKED: &[u8] = b"ffffffff81000000 T _text\nffffffff81001000 T do_work\nffffffff81002000 t run_work\n\
+const LINKED: &[u8] =
+    b"ffffffff81000000 T _text\nffffffff81001000 T do_work\nffffffff81002000 t run_work\n\
 0000000000000000 T start\n";
 
 const RUNNING: &[u8] =
@@ -160,31 +161,31 @@ fn trace_of_a_moved_kernel(rt: HostRuntime) -> Result<(), Fail> {
         ),
         (
             LINKED,
-            b"[    3.0] Kernel Offset: 0x1000000 from 0xFFFFFFFF81000000\n",
+            &b"[    3.0] Kernel Offset: 0x1000000 from 0xFFFFFFFF81000000\n"[..],
             NAMED,
         ),
         (
             RUNNING,
-            b"[    3.0] Kernel Offset: 0x1000000 from 0xffffffff81000000\n",
+            &b"[    3.0] Kernel Offset: 0x1000000 from 0xffffffff81000000\n"[..],
             NAMED,
         ),
         (
             LINKED,
-            b"[    3.0] Kernel Offset: 0x1000000 from 0xffffffff81000010\n",
+            &b"[    3.0] Kernel Offset: 0x1000000 from 0xffffffff81000010\n"[..],
             UNNAMED,
         ),
-        (LINKED, b"[    3.0] Kernel Offset: disabled\n", UNNAMED),
+        (LINKED, &b"[    3.0] Kernel Offset: disabled\n"[..], UNNAMED),
         (
             LINKED,
-            b"[    3.0] Kernel Offset: 0x1000z00 from 0xffffffff81000000\n",
+            &b"[    3.0] Kernel Offset: 0x1000z00 from 0xffffffff81000000\n"[..],
             UNNAMED,
         ),
         (
             LINKED,
-            b"[    3.0] Kernel Offset: 0x1000000 from 0x\n",
+            &b"[    3.0] Kernel Offset: 0x1000000 from 0x\n"[..],
             UNNAMED,
         ),
-        (LINKED, b"[    3.0] Kernel panic\n", UNNAMED),
+        (LINKED, &b"[    3.0] Kernel panic\n"[..], UNNAMED),
     ] {
         let report = moved(rt.alloc(), map, console)?;
         assert!(rt; begins_trace(&report, lines), "{lines}");

@@ -468,7 +468,7 @@ fn lists(page: &[u8], names: &[&str]) -> Result<bool, Fail> {
     let mut rest = str::from_utf8(page)?;
     for name in names {
         match rest.split_once("</span>\n<b>") {
-            Some((_, after)) if after.starts_with(name) => rest = after,
+            Some((_, after)) if after.starts_with(*name) => rest = after,
             _ => return Ok(false),
         }
     }
