@@ -66,12 +66,12 @@ fn put_run(room: &mut [u8; ROOM], run: &[u8]) -> usize
     at
 }
 
-/// Appends a run escaped.
+/// Appends a run escaped. A short one is not tested first: that would go byte by byte.
 fn push_run(out: &mut Vec<u8>, run: &[u8]) -> Result<(), AllocError>
     requires { length run.now ≤ 32 }
     ensures { OnOk result (out.new.items ≡ out.old.items ++ escaped run.now) }
 {
-    if are_kept(run) {
+    if run.len() == RUN && are_kept(run) {
         return out.extend_from_slice(run);
     }
     let mut room = [0; ROOM];
