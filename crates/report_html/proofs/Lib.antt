@@ -5,6 +5,7 @@ pub mod FactRows
 pub mod RunsOfBlocks
 pub mod Texts
 pub mod Runs
+pub mod ByteRows
 pub mod PieceTexts
 pub mod NonZeroCounts
 pub mod PartSums

@@ -1,9 +1,11 @@
 -- Bytes that are escaped run by run
-use Rattle.std.proofs.Common.{◌≡◌, ℕ, ◌+◌, ◌-◌, ◌≤◌, ◌<◌, length, get_or, append-nil, List, [], ◌∷◌, ◌++◌, take, drop}
-use Rattle.std.proofs.Common.{slice_range, sym, ap, ap₂, ◌∙◌, arith, append_assoc}
+use Rattle.std.proofs.Common.{◌≡◌, ℕ, ◌+◌, ◌-◌, ◌≤◌, length, List, ◌++◌, take, drop, slice_range, refl, sym, ap, ap₂}
+use Rattle.std.proofs.Common.{◌∙◌, arith, append_assoc, length-take-le, take-add, take_at, drop_at}
 use Rattle.std.specs.Prelude.{flat_map}
-use Rattle.std.proofs.lemmas.List.{take-append-drop, drop-take, take-take, take_more, length-take}
+use Rattle.std.proofs.lemmas.List.{take-append-drop, drop-take, take-take}
 use Rattle.std.proofs.lemmas.List.Concat.{flat_map-append}
+use Rattle.std.proofs.lemmas.Simd.{take_more_put_chunk}
+use lib.Lanes.{put_chunk}
 use Rattle.report_spec.specs.Escaped.{escaped_byte, escaped}
 use Rattle.report_html.proofs.Texts.{escaped-is}
 
@@ -26,46 +28,13 @@ run-next xs at end front old new le was pushed =
     ∙ ap (λ (ys : List ℕ). front ++ ys) (sym (ap (λ (ys : List ℕ). flat_map escaped_byte ys) whole
     ∙ flat_map-append escaped_byte (take at xs) run))
 
--- a byte more that is escaped as itself
-pub kept-next : (xs : List ℕ) (i b : ℕ) → take (i + 1) xs ≡ take i xs ++ b ∷ []
-    → flat_map escaped_byte (take i xs) ≡ take i xs → escaped_byte b ≡ b ∷ []
-    → flat_map escaped_byte (take (i + 1) xs) ≡ take (i + 1) xs
-kept-next xs i b more was own =
-    ap (λ (ys : List ℕ). flat_map escaped_byte ys) more
-    ∙ flat_map-append escaped_byte (take i xs) (b ∷ [])
-    ∙ ap₂ (λ (ys zs : List ℕ). ys ++ zs) was (ap (λ (ys : List ℕ). ys ++ []) own)
-    ∙ sym more
-
--- bytes at the front that are escaped as themselves
-pub front-kept : (xs : List ℕ) (n : ℕ) (old new : List ℕ) → escaped (take n xs) ≡ take n xs → new ≡ old ++ take n xs
-    → new ≡ old ++ escaped (take n xs)
-front-kept xs n old new own pushed = pushed ∙ ap (λ (ys : List ℕ). old ++ ys) (sym own)
-
--- and one behind them that is not
-pub front-next : (xs : List ℕ) (n : ℕ) (old mid new : List ℕ) → n < length xs → escaped (take n xs) ≡ take n xs
-    → mid ≡ old ++ take n xs → new ≡ mid ++ escaped_byte (get_or xs n 0) → new ≡ old ++ escaped (take (n + 1) xs)
-front-next xs n old mid new lt own first pushed =
-    let e : List ℕ = escaped_byte (get_or xs n 0) in
-    let one : escaped (take (n + 1) xs) ≡ escaped (take n xs) ++ e =
-    escaped-is (take (n + 1) xs)
-    ∙ ap (λ (ys : List ℕ). flat_map escaped_byte ys) (take_more xs n 0 lt)
-    ∙ flat_map-append escaped_byte (take n xs) (get_or xs n 0 ∷ [])
-    ∙ ap₂ (λ (ys zs : List ℕ). ys ++ zs) (sym (escaped-is (take n xs))) (append-nil e) in
-    pushed ∙ ap (λ (m : List ℕ). m ++ e) first ∙ append_assoc old (take n xs) e
-    ∙ ap (λ (ys : List ℕ). old ++ ys) (ap (λ (ys : List ℕ). ys ++ e) (sym own) ∙ sym one)
-
--- the front of a run more
-pub run-taken : (xs : List ℕ) (at end taken : ℕ) (front old new : List ℕ) → at + taken ≤ end
-    → old ≡ front ++ flat_map escaped_byte (take at xs) → new ≡ old ++ escaped (take taken (slice_range xs at end))
-    → new ≡ front ++ flat_map escaped_byte (take (at + taken) xs)
-run-taken xs at end taken front old new within was pushed =
-    let same : take taken (slice_range xs at end) ≡ slice_range xs at (at + taken) =
-    take-take taken (end - at) (drop at xs) (omega (arith, within))
-    ∙ ap (λ (n : ℕ). take n (drop at xs)) (let e : taken ≡ at + taken - at = omega arith in e) in
-    run-next xs at (at + taken) front old new (omega arith) was
-    (pushed ∙ ap (λ (ys : List ℕ). old ++ escaped ys) same)
-
--- what was taken of a run ends before the run does
-pub run-fits : (xs : List ℕ) (at end taken : ℕ) → at ≤ end → taken ≤ length (slice_range xs at end) → at + taken ≤ end
-run-fits xs at end taken le h =
-    let l = length-take (end - at) (drop at xs) in omega (arith, le, l, h)
+-- the front of a row that was stored at a place
+pub row-stored : (room row : List ℕ) (at n : ℕ) {e : List ℕ} → n ≤ length row → at + length row ≤ length room
+    → take n row ≡ e → take (at + n) (put_chunk at room row) ≡ take at room ++ e
+row-stored room row at n few fits text =
+    let front : length (take at room) ≡ at = length-take-le at room (omega (arith, fits)) in
+    sym (take-take (at + n) (at + length row) (put_chunk at room row) (omega (arith, few)))
+    ∙ ap (take (at + n)) (take_more_put_chunk at room row (at + length row) refl fits)
+    ∙ take-add at n (take at room ++ row)
+    ∙ ap₂ (λ (ys zs : List ℕ). ys ++ zs) (take_at (take at room) row at front)
+    (ap (take n) (drop_at (take at room) row at front) ∙ text)

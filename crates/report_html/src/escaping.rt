@@ -1,41 +1,30 @@
 // Bytes as a page shows them.
-ghost use Rattle.std.specs.Prelude.{◌≡◌, ◌++◌, ◌∷◌, [], ◌<◌, ◌≤◌, ◌+◌, length, take, IfOk, OnOk};
+ghost use Rattle.std.specs.Prelude.{◌≡◌, ◌++◌, ◌∷◌, [], ◌≤◌, ◌+◌, length, take, slice_index, OnOk};
 ghost use Rattle.std.specs.Bool.{OnTrue};
-ghost use Rattle.report_spec.specs.Escaped.{escaped, escaped_byte, is_plain, shown, hex_digit};
+ghost use Rattle.report_spec.specs.Escaped.{escaped, escaped_byte};
 
+use crate::byte_rows::ROWS;
 use std::alloc::AllocError;
+use std::simd::u8x8;
 
-fn is_plain(b: u8) -> bool
-    ensures { result ≡ is_plain b }
+/// A byte escaped, and zeros behind that. The last place has its length.
+fn row_of(b: u8) -> [u8; 8]
+    ensures len { slice_index result 7 ≤ 6 }
+    ensures text { take (slice_index result 7) result ≡ escaped_byte b }
 {
-    b == 9 || b == 10 || (32 <= b && b < 127 && b != 92)
+    ROWS[b as usize].to_le_bytes()
 }
 
-fn hex_digit(n: u8) -> u8
-    requires { n < 16 }
-    ensures { result ≡ hex_digit n }
+/// Stores a byte escaped at a place, in one store of its row. Returns where it ends.
+fn put_byte(room: &mut [u8], at: usize, b: u8) -> usize
+    requires { at + 8 ≤ length room.old }
+    ensures len { length room.new ≡ length room.old }
+    ensures end { result ≤ at + 6 }
+    ensures text { take result room.new ≡ take at room.old ++ escaped_byte b }
 {
-    if n < 10 { 48 + n } else { 87 + n }
-}
-
-fn push_shown(out: &mut Vec<u8>, b: u8) -> Result<(), AllocError>
-    ensures { OnOk result (out.new.items ≡ out.old.items ++ shown b) }
-{
-    out.extend_from_slice(&[92, 120, hex_digit(b / 16), hex_digit(b % 16)])
-}
-
-fn push_byte(out: &mut Vec<u8>, b: u8) -> Result<(), AllocError>
-    ensures { OnOk result (out.new.items ≡ out.old.items ++ escaped_byte b) }
-{
-    match b {
-        38 => out.extend_from_slice(b"&amp;"),
-        60 => out.extend_from_slice(b"&lt;"),
-        62 => out.extend_from_slice(b"&gt;"),
-        34 => out.extend_from_slice(b"&quot;"),
-        39 => out.extend_from_slice(b"&#39;"),
-        _ if is_plain(b) => out.extend_from_slice(&[b]),
-        _ => push_shown(out, b),
-    }
+    let row = row_of(b);
+    u8x8::from_array(row).copy_to_slice(&mut room[at..]);
+    at + usize::from(row[7])
 }
 
 /// Whether a byte is escaped as itself. Has no branch, so that many bytes are tested at once.
@@ -58,52 +47,36 @@ fn are_kept(bytes: &[u8]) -> bool
     are_kept
 }
 
-/// The bytes that are tested at once.
+/// The bytes that are escaped at once.
 const RUN: usize = 32;
 
-/// How many bytes at the front are escaped as themselves.
-fn kept_len(bytes: &[u8]) -> usize
-    ensures within { result ≤ length bytes.now }
-    ensures kept { escaped (take result bytes.now) ≡ take result bytes.now }
+/// The room of a run: six bytes at most for each of its bytes, and the rest of the last row.
+const ROOM: usize = 200;
+
+/// Stores a run escaped at the front of its room. Returns where it ends.
+fn put_run(room: &mut [u8; ROOM], run: &[u8]) -> usize
+    requires { length run.now ≤ 32 }
+    ensures within { result ≤ 200 }
+    ensures text { take result room.new ≡ escaped run.now }
 {
     let mut at = 0;
-    'bytes: while at < bytes.len() {
-        if !is_kept(bytes[at]) {
-            return at;
-        }
-        at += 1;
+    for b in run {
+        at = put_byte(room, at, *b);
     }
     at
 }
 
-/// Appends the bytes at the front that are escaped as themselves, and the one behind them escaped. Returns how many
-/// bytes it took.
-fn push_front(out: &mut Vec<u8>, bytes: &[u8]) -> Result<usize, AllocError>
-    requires { 0 < length bytes.now }
-    ensures some { IfOk result (λ taken. (0 < taken) × (taken ≤ length bytes.now)) }
-    ensures pushed { IfOk result (λ taken. out.new.items ≡ out.old.items ++ escaped (take taken bytes.now)) }
+/// Appends a run escaped. A short one is not tested first: that would go byte by byte.
+fn push_run(out: &mut Vec<u8>, run: &[u8]) -> Result<(), AllocError>
+    requires { length run.now ≤ 32 }
+    ensures { OnOk result (out.new.items ≡ out.old.items ++ escaped run.now) }
 {
-    let kept = kept_len(bytes);
-    out.extend_from_slice(&bytes[..kept])?;
-    if kept == bytes.len() {
-        return Ok(kept);
+    if run.len() == RUN && are_kept(run) {
+        return out.extend_from_slice(run);
     }
-    push_byte(out, bytes[kept])?;
-    Ok(kept + 1)
-}
-
-/// Appends the front of a few bytes escaped, and all if they are escaped as themselves. Returns how many it took.
-fn push_run(out: &mut Vec<u8>, run: &[u8]) -> Result<usize, AllocError>
-    requires { 0 < length run.now }
-    ensures some { IfOk result (λ taken. (0 < taken) × (taken ≤ length run.now)) }
-    ensures pushed { IfOk result (λ taken. out.new.items ≡ out.old.items ++ escaped (take taken run.now)) }
-{
-    if are_kept(run) {
-        out.extend_from_slice(run)?;
-        Ok(run.len())
-    } else {
-        push_front(out, run)
-    }
+    let mut room = [0; ROOM];
+    let end = put_run(&mut room, run);
+    out.extend_from_slice(&room[..end])
 }
 
 /// Appends the bytes escaped.
@@ -113,8 +86,8 @@ pub fn push_escaped(out: &mut Vec<u8>, bytes: &[u8]) -> Result<(), AllocError>
     let mut at = 0;
     while at < bytes.len() {
         let end = at + RUN.min(bytes.len() - at);
-        let taken = push_run(out, &bytes[at..end])?;
-        at += taken;
+        push_run(out, &bytes[at..end])?;
+        at = end;
     }
     Ok(())
 }

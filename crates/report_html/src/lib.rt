@@ -7,6 +7,7 @@
 
 mod before;
 mod block_runs;
+mod byte_rows;
 mod causes;
 mod died;
 mod ended;
