@@ -20,8 +20,8 @@ better_is [] e = let n : true ≡ false = e in cc
 better_is (b ∷ bs) e = refl
 
 pub up_is : (uptime : List ℕ) (n : ℕ) → (length uptime == 0) ≡ false → n ≡ seconds_from 0 uptime
-    → Words (codes "<tr><th scope=\"row\">Up</th><td>") ∷ Bytes uptime ∷ Words (codes " s") ∷ Long n
-    ∷ Words (codes "</td></tr>\n") ∷ [] ≡ up_parts uptime
+    → Words (codes ", ") ∷ Bytes uptime ∷ Words (codes " s after boot") ∷ Long n ∷ Words (codes "</td></tr>\n") ∷ []
+    ≡ up_parts uptime
 up_is [] n e s = let n : true ≡ false = e in cc
 up_is (b ∷ bs) n e s = rw s refl
 

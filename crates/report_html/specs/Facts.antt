@@ -8,18 +8,17 @@ use Rattle.report_html.specs.Pieces.{Part, Words, Bytes, Moment, Long}
 
 -- the head of the table, and the time of the record that tells
 abbrev pub when_parts : Option Time → List Part
-when_parts None =
-    Words (codes "<table class=\"fact\">\n<tr><th scope=\"row\">When</th><td>no date</td></tr>\n") ∷ []
+when_parts None = Words (codes "<table class=\"fact\">\n<tr><th scope=\"row\">When</th><td>no date") ∷ []
 when_parts (Some time) =
     Words (codes "<table class=\"fact\">\n<tr><th scope=\"row\">When</th><td><b>") ∷ Moment time
-    ∷ Words (codes "</b></td></tr>\n") ∷ []
+    ∷ Words (codes "</b>") ∷ []
 
--- how long the machine had been up; no row if no line tells it
+-- in the same row, how long the machine had been up, if a line tells it
 abbrev pub up_parts : List ℕ → List Part
-up_parts [] = []
+up_parts [] = Words (codes "</td></tr>\n") ∷ []
 up_parts (b ∷ bs) =
-    Words (codes "<tr><th scope=\"row\">Up</th><td>") ∷ Bytes (b ∷ bs) ∷ Words (codes " s")
-    ∷ Long (seconds_from 0 (b ∷ bs)) ∷ Words (codes "</td></tr>\n") ∷ []
+    Words (codes ", ") ∷ Bytes (b ∷ bs) ∷ Words (codes " s after boot") ∷ Long (seconds_from 0 (b ∷ bs))
+    ∷ Words (codes "</td></tr>\n") ∷ []
 
 -- a row of bytes; none if there are none
 abbrev pub bytes_parts : (label bytes : List ℕ) → List Part

@@ -21,32 +21,32 @@ pub fn add_when(pieces: &mut Vec<Piece<'_>>, time: Option<Time>) -> Result<(), A
             &[
                 Piece::Own("<table class=\"fact\">\n<tr><th scope=\"row\">When</th><td><b>"),
                 Piece::Moment(time),
-                Piece::Own("</b></td></tr>\n"),
+                Piece::Own("</b>"),
             ],
         ),
         None => add(
             pieces,
             &[Piece::Own(
-                "<table class=\"fact\">\n<tr><th scope=\"row\">When</th><td>no date</td></tr>\n",
+                "<table class=\"fact\">\n<tr><th scope=\"row\">When</th><td>no date",
             )],
         ),
     }
 }
 
-/// Adds how long the machine had been up, if a line tells it.
+/// Adds to that row how long the machine had been up, if a line tells it.
 pub fn add_up<'a>(pieces: &mut Vec<Piece<'a>>, uptime: &'a [u8]) -> Result<(), AllocError>
     ensures bytes { AreBytes uptime.entry.now }
     ensures parts { OnOk result (parts pieces.new.items ≡ parts pieces.old.items ++ up_parts uptime.entry.now) }
 {
     if uptime.is_empty() {
-        return Ok(());
+        return add(pieces, &[Piece::Own("</td></tr>\n")]);
     }
     add(
         pieces,
         &[
-            Piece::Own("<tr><th scope=\"row\">Up</th><td>"),
+            Piece::Own(", "),
             Piece::Foreign(uptime),
-            Piece::Own(" s"),
+            Piece::Own(" s after boot"),
             Piece::Long(seconds(uptime)),
             Piece::Own("</td></tr>\n"),
         ],

@@ -213,8 +213,7 @@ fn why_it_died(rt: HostRuntime) -> Result<(), Fail> {
     let died = "</nav>
 <pre class=\"why\">Kernel panic - not syncing: &lt;b&gt;\\xff</pre>
 <table class=\"fact\">
-<tr><th scope=\"row\">When</th><td><b>2025-11-27 00:04:18.836908 UTC</b></td></tr>
-<tr><th scope=\"row\">Up</th><td>2.500000 s</td></tr>
+<tr><th scope=\"row\">When</th><td><b>2025-11-27 00:04:18.836908 UTC</b>, 2.500000 s after boot</td></tr>
 <tr><th scope=\"row\">CPU</th><td>0</td></tr>
 <tr><th scope=\"row\">Task</th><td>PID: 1 Comm: init</td></tr>
 <tr><th scope=\"row\">Kernel</th><td>Not tainted 6.1.0 #1</td></tr>
@@ -241,8 +240,7 @@ Panic#1 Part1
 
 #[test]
 fn why_it_died_by_the_console(rt: HostRuntime) -> Result<(), Fail> {
-    let died = "<tr><th scope=\"row\">When</th><td>no date</td></tr>
-<tr><th scope=\"row\">Up</th><td>3.034971 s</td></tr>
+    let died = "<tr><th scope=\"row\">When</th><td>no date, 3.034971 s after boot</td></tr>
 <tr><th scope=\"row\">CPU</th><td>not recorded</td></tr>
 <tr><th scope=\"row\">Function</th><td>not recorded</td></tr>
 <tr><th scope=\"row\">Signature</th><td>kernel panic: sysrq triggered crash</td></tr>
@@ -276,8 +274,7 @@ fn what_is_known(rt: HostRuntime) -> Result<(), Fail> {
         ),
         (
             LONG,
-            "<tr><th scope=\"row\">When</th><td>no date</td></tr>
-<tr><th scope=\"row\">Up</th><td>93784.500000 s (1 d 2 h)</td></tr>
+            "<tr><th scope=\"row\">When</th><td>no date, 93784.500000 s after boot (1 d 2 h)</td></tr>
 <tr><th scope=\"row\">CPU</th><td>1</td></tr>
 <tr><th scope=\"row\">Task</th><td>PID: 40 Comm: init</td></tr>
 <tr><th scope=\"row\">Kernel</th><td>Tainted: G O 6.1.0 #1</td></tr>
@@ -298,8 +295,7 @@ fn what_is_known(rt: HostRuntime) -> Result<(), Fail> {
             "</nav>
 <pre class=\"why\">no death: an orderly restart</pre>
 <table class=\"fact\">
-<tr><th scope=\"row\">When</th><td>no date</td></tr>
-<tr><th scope=\"row\">Up</th><td>312.884310 s (5 min 12 s)</td></tr>
+<tr><th scope=\"row\">When</th><td>no date, 312.884310 s after boot (5 min 12 s)</td></tr>
 <tr><th scope=\"row\">Last line</th><td>reboot: Restarting system</td></tr>
 <tr><th scope=\"row\">Told by</th><td><a href=\"#console-ramoops-0\">console-ramoops-0</a></td></tr>
 <tr><th scope=\"row\">Read</th><td><span class=\"ok\">clean</span></td></tr>
