@@ -1,31 +1,42 @@
 // The lines of a script, in order.
-ghost use Rattle.std.specs.Prelude.{◌≡◌, ◌+◌, ◌≤◌, ◌<◌, ◌^◌, ℕ, List, length, Option, IfOk, MatchResult};
-ghost use Rattle.prz_read.specs.Saving.{SavedLogs};
+ghost use Rattle.std.specs.Prelude.{◌≡◌, ◌+◌, ◌≤◌, ◌<◌, ◌^◌, ℕ, List, length, Option, IsTrue, ◌↔◌, IfOk, MatchResult};
 ghost use Rattle.grammar_spec.specs.Printed.{HasFields, AllHaveFields};
 ghost use Rattle.script_spec.specs.Playing.{KeptUnless};
 ghost use Rattle.ram_session.specs.Sessions.{IsCall};
-ghost use Rattle.ram_session.specs.Machines.{crashes_of};
-ghost use Rattle.ram_session.specs.declared.kernel.Kernel.{Kernel};
-ghost use Rattle.ram_session.specs.declared.machine.Machine.TheVariants.{Live as LiveMachine};
+ghost use Rattle.ram_session.specs.Machines.{IsLive, crashes_of};
 ghost use Rattle.ram_session.specs.Playing.{Puts, LineStops, Plays};
 
 use crate::lines::{do_call, do_line, is_call};
 use crate::machine::{LineError, Machine};
 use outside::{Failed, Sink};
-use ramoops::{Live, Off};
+use ramoops::Off;
 use script::{Line, Lines};
 use script_spec::LineStop;
 use std::alloc::Global;
 
+fn is_live(machine: &Machine) -> bool
+    ensures { IsTrue result ↔ IsLive machine.now }
+{
+    match machine {
+        Machine::Off(_) => false,
+        Machine::Live(_, _, _) => true,
+    }
+}
+
 // Does the line of this number, one of a call, which prints nothing.
-#[tactic(auto, using(crate::proofs::CallLines::call_puts, crate::proofs::CallLines::call_refused))]
-fn play_call(live: &mut Live, line: Line, number: u32) -> Result<(), LineStop>
+#[tactic(auto, using(crate::proofs::CallLines::call_puts))]
+fn play_call(machine: &mut Machine, line: Line, number: u32) -> Result<(), LineStop>
     requires fields { HasFields line }
     requires call { IsCall line }
-    ensures { (logs : SavedLogs) (kernel : Kernel) (given : Option (List ℕ)) (faults : ℕ) → MatchResult result
-        (λ _. Puts (LiveMachine live.old logs kernel) line (LiveMachine live.new logs kernel) given given)
-        (λ stop. LineStops stop (LiveMachine live.old logs kernel) line number given given faults faults) }
+    requires live { IsLive machine.old }
+    ensures count { crashes_of machine.new ≡ crashes_of machine.old }
+    ensures played { (given : Option (List ℕ)) (faults : ℕ) → MatchResult result
+        (λ _. Puts machine.old line machine.new given given)
+        (λ stop. LineStops stop machine.old line number given given faults faults) }
 {
+    let Machine::Live(live, _, _) = machine else {
+        unreachable!();
+    };
     match do_call(live, line) {
         Ok(()) => Ok(()),
         Err(LineError::Memory) => Err(LineStop::Memory),
@@ -88,15 +99,16 @@ pub fn play<O: Sink>(
     let mut number = 0u32;
     for line in lines.into_vec() {
         number += 1;
-        match &mut machine {
-            Machine::Live(live, _, _) if is_call(&line) => match play_call(live, line, number) {
+        if is_live(&machine) && is_call(&line) {
+            match play_call(&mut machine, line, number) {
                 Ok(()) => {}
                 Err(stop) => return Err(stop),
-            },
-            _ => match play_line(alloc, machine, line, number, out) {
-                Ok(next) => machine = next,
+            }
+        } else {
+            machine = match play_line(alloc, machine, line, number, out) {
+                Ok(next) => next,
                 Err(stop) => return Err(stop),
-            },
+            };
         }
     }
     Ok(machine)
