@@ -8,5 +8,7 @@ pub mod Back
 pub mod Begun
 pub mod WholeCalls
 pub mod NextStores
+pub mod PlainStores
+pub mod PlainAnswer
 pub mod FlightAnswer
 pub mod Blocks

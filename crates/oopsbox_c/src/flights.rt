@@ -7,6 +7,7 @@ ghost use Rattle.store_steps.specs.Machine.{IsKept, IsParity};
 ghost use Rattle.store_steps.specs.declared.place.Phase.TheVariants.{Finished};
 ghost use Rattle.oopsbox_c.specs.Gathered.{IsGathered, HasGone};
 ghost use Rattle.oopsbox_c.specs.Ends.{status_of};
+ghost use Rattle.oopsbox_c.specs.Numbers.{call_in};
 ghost use Rattle.oopsbox_c.specs.Places.{zone_in};
 ghost use Rattle.oopsbox_c.specs.Tables.{IsOwed, IsLendable};
 ghost use Rattle.oopsbox_c.specs.Flights.{steps_of, IsFlight, BeginEnds, IsAsked, IsNext, NextEnds, AppendEnds};
@@ -15,6 +16,7 @@ ghost use Rattle.zone_spec.specs.declared.CallKind.TheVariants.{Append, Erase, D
 use crate::End;
 use crate::numbers::{call_in, call_number, leg_in, leg_number, phase_in, phase_number};
 use crate::places::{ZonePlace, byte_order_in, is_place, zone_in};
+use crate::plain::put_all;
 use crate::stores::Stores;
 use crate::tables::{TableRow, is_lendable, lend};
 use prz_ecc::words_of;
@@ -356,6 +358,21 @@ pub extern "C" fn oopsbox_flight_next(
     end.status()
 }
 
+// Hands out all stores of an append without parity that was begun: the flight is at its end.
+fn finish_plain(flight: &mut Flight, payload: &[u8], stores: &mut Stores)
+    requires flight { IsFlight flight.old [] payload.now }
+    requires kind { call_in flight.old.kind ≡ Append }
+    requires made { flight.old.made ≡ 0 }
+    requires parity { flight.old.zone.parity ≡ 0 }
+    ensures { (image : List ℕ) → IsNext flight.old flight.new image [] payload.now 4294967295 stores.new }
+{
+    let zone = zone_in(&flight.zone);
+    flight.made = put_all(&zone, flight.old_start, flight.old_size, payload, stores);
+    flight.phase = phase_number(Phase::Finished);
+    flight.number = 0;
+    stores.is_last = 1;
+}
+
 // Begins an append, and hands out its first stores.
 fn append(
     place: &ZonePlace,
@@ -367,8 +384,10 @@ fn append(
     ensures { AppendEnds result place.now image.now payload.now flight.old flight.new stores.old stores.new }
 {
     let end = begin(place, CallKind::Append, image, &[], payload, flight);
-    if let End::Done = end {
-        go_on(flight, image, &[], payload, &[], u32::MAX, stores);
+    match end {
+        End::Done if place.parity == 0 => finish_plain(flight, payload, stores),
+        End::Done => go_on(flight, image, &[], payload, &[], u32::MAX, stores),
+        _ => {}
     }
     end
 }

@@ -13,6 +13,7 @@ mod layouts;
 mod memory;
 mod numbers;
 mod places;
+mod plain;
 mod readings;
 mod reporting;
 mod running;

@@ -1,5 +1,6 @@
 // Stores as C sees them.
 ghost use Rattle.std.specs.Prelude.{◌≡◌, ◌+◌, ◌≤◌, ◌<◌, ◌↔◌, ◌⊎◌, ◌++◌, [], List, ℕ, IsTrue, length, take, drop};
+ghost use Rattle.zone_spec.specs.Stores.{byte_stores, word_store};
 ghost use Rattle.store_steps.specs.Handed.{handed, IsInside};
 ghost use Rattle.store_steps.specs.declared.store.Given.TheVariants.{Nothing};
 ghost use Rattle.zone_boot.specs.Handed.{handed as boot_handed, handed_len};
@@ -7,6 +8,7 @@ ghost use Rattle.zone_boot.specs.declared.handing.Given.TheVariants.{Nothing as 
 
 use store_steps::{Given, Store};
 use zone_boot::BootStore;
+use zone_spec::ByteOrder;
 
 /// A word, or bytes that are stored one by one, rising, from `place` on. `what` is 0 for a word: the first four of
 /// `bytes`, which are those of `word`, the lowest first, at once; 1 for `len` bytes of the line and 2 for `len` bytes of
@@ -66,6 +68,34 @@ impl StoreRow {
             }
             Given::Nothing => {}
         }
+    }
+
+    /// A word at once.
+    fn set_word(&mut self, order: ByteOrder, place: u32, word: u32)
+        ensures stores { (line payload : List ℕ) → row_stores self.new line payload ≡ word_store order place word }
+        ensures inside { (size : ℕ) (line payload : List ℕ) → place + 4 ≤ size → IsRowInside size self.new line payload }
+    {
+        self.from = 0;
+        self.what = 0;
+        self.place = place;
+        self.len = 4;
+        self.word = order.turned(word);
+        let bytes = self.word.to_le_bytes();
+        self.bytes[..4].copy_from_slice(&bytes);
+    }
+
+    /// `len` bytes of the payload, those from `from` on.
+    fn set_payload(&mut self, place: u32, from: u64, len: u32)
+        ensures stores { (line payload : List ℕ) → row_stores self.new line payload
+            ≡ byte_stores place (take len (drop from payload)) }
+        ensures inside { (size : ℕ) (line payload : List ℕ) → place + len ≤ size → from + len ≤ length payload
+            → IsRowInside size self.new line payload }
+    {
+        self.from = from;
+        self.what = 2;
+        self.place = place;
+        self.len = len;
+        self.word = 0;
     }
 
     /// The same stores, of a boot.
@@ -128,6 +158,32 @@ impl Stores {
             → IsInside size store.now line payload → AreInside size self.new line payload }
     {
         self.stores[self.count as usize].set(store);
+        self.count += 1;
+    }
+
+    /// These stores, and then a word.
+    pub(crate) fn push_word(&mut self, order: ByteOrder, place: u32, word: u32)
+        requires room { self.old.count < 4 }
+        ensures count { self.new.count ≡ self.old.count + 1 }
+        ensures stores { (line payload : List ℕ) → stores_in self.new line payload
+            ≡ stores_in self.old line payload ++ word_store order place word }
+        ensures inside { (size : ℕ) (line payload : List ℕ) → AreInside size self.old line payload → place + 4 ≤ size
+            → AreInside size self.new line payload }
+    {
+        self.stores[self.count as usize].set_word(order, place, word);
+        self.count += 1;
+    }
+
+    /// These stores, and then those of `len` bytes of the payload, from `from` on.
+    pub(crate) fn push_payload(&mut self, place: u32, from: u64, len: u32)
+        requires room { self.old.count < 4 }
+        ensures count { self.new.count ≡ self.old.count + 1 }
+        ensures stores { (line payload : List ℕ) → stores_in self.new line payload
+            ≡ stores_in self.old line payload ++ byte_stores place (take len (drop from payload)) }
+        ensures inside { (size : ℕ) (line payload : List ℕ) → AreInside size self.old line payload → place + len ≤ size
+            → from + len ≤ length payload → AreInside size self.new line payload }
+    {
+        self.stores[self.count as usize].set_payload(place, from, len);
         self.count += 1;
     }
 

@@ -6,6 +6,7 @@ pub mod LiveLines
 pub mod StateLines
 pub mod RecordLines
 pub mod AnyLines
+pub mod CallLines
 pub mod Machines
 pub mod KernelLines
 pub mod ScriptLines

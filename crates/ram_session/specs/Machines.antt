@@ -1,5 +1,5 @@
 -- A script's machine: its store, and the kernel of a live one
-use Rattle.std.specs.Prelude.{◌≡◌, ℕ, List, Ok, Err}
+use Rattle.std.specs.Prelude.{◌≡◌, ⊤, ℕ, List, Ok, Err}
 use Rattle.zone_spec.specs.declared.Zone.{Zone}
 use Rattle.zone_spec.specs.Layouts.{IsLayout}
 use Rattle.machine_spec.specs.States.{Session}
@@ -18,6 +18,10 @@ use Rattle.ram_session.specs.declared.machine.LineError.TheVariants.{Memory, Ref
 abbrev pub store_of : Machine → StoreSeen
 store_of (Off off) = OffStore off
 store_of (Live live logs kernel) = LiveStore live logs
+
+abbrev pub IsLive : Machine → Type 0
+IsLive (Off off) = ⊥
+IsLive (Live live logs kernel) = ⊤
 
 -- the machine's kernel stands for this one, which is a new one while it is off
 abbrev pub HasKernel : Machine → KernelOf → Type 0

@@ -1,5 +1,5 @@
 // The lines of a script, whatever the machine's state.
-ghost use Rattle.std.specs.Prelude.{◌≡◌, ◌+◌, ◌<◌, ◌≤◌, ◌^◌, [], IfOk, MatchResult};
+ghost use Rattle.std.specs.Prelude.{◌≡◌, ◌+◌, ◌<◌, ◌≤◌, ◌^◌, ◌↔◌, IsTrue, [], IfOk, MatchResult};
 ghost use Rattle.prz_read.specs.Saving.{SavedLogs};
 ghost use Rattle.grammar_spec.specs.Printed.{HasFields};
 ghost use Rattle.grammar_spec.specs.declared.line.Line.TheVariants.{Boot};
@@ -16,9 +16,21 @@ use script::Line;
 use script_spec::Cause;
 use std::alloc::Global;
 
-// A line of a call.
+/// Whether the line is one of a call.
+pub(crate) fn is_call(line: &Line) -> bool
+    ensures { IsTrue result ↔ IsCall line.now }
+{
+    match line {
+        Line::Write(_, _) | Line::Dump(_, _, _) => true,
+        Line::BeginWrite(_, _) | Line::BeginErase(_) | Line::BeginDump(_, _, _) => true,
+        Line::Step(_, _) | Line::Finish(_) => true,
+        _ => false,
+    }
+}
+
+/// A line of a call.
 #[tactic(auto, using(crate::proofs::AnyLines::dump_time, crate::proofs::AnyLines::begin_dump_time))]
-fn do_call(live: &mut Live, line: Line) -> Result<(), LineError>
+pub(crate) fn do_call(live: &mut Live, line: Line) -> Result<(), LineError>
     requires fields { HasFields line }
     requires call { IsCall line }
     ensures { (logs : SavedLogs) → MatchResult result (λ _. LineDone (LiveStore live.old logs) line

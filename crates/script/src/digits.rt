@@ -1,7 +1,7 @@
 // Bytes as pairs of hexadecimal digits.
-ghost use Rattle.std.specs.Prelude.{◌≡◌, ℕ, ◌*◌, ◌==◌, length, unwrap_or, IsErr, Ok, MatchOption};
-ghost use Rattle.std.specs.Bool.{MatchBool};
-ghost use Rattle.hex.specs.Hex.{hex_digit_value, pair_value, decode_pairs, decode_of};
+ghost use Rattle.std.specs.Prelude.{◌≡◌, ℕ, ◌*◌, true, length, Ok};
+ghost use Rattle.std.specs.List.{list_all};
+ghost use Rattle.hex.specs.Hex.{is_hex_digit, pair_value, decode_pairs, decode_of};
 ghost use Rattle.grammar_spec.specs.Fields.{decoded};
 ghost use Rattle.script.specs.Reading.{Gives};
 
@@ -9,56 +9,48 @@ use crate::rows::LineFault;
 use outside::Bytes;
 use std::alloc::Global;
 
-/// The value of each hexadecimal digit of either case, and 255 for every other byte.
-const VALUES: [u8; 256] = [
-    255, 255, 255, 255, 255, 255, 255, 255, 255, 255, 255, 255, 255, 255, 255, 255, 255, 255, 255,
-    255, 255, 255, 255, 255, 255, 255, 255, 255, 255, 255, 255, 255, 255, 255, 255, 255, 255, 255,
-    255, 255, 255, 255, 255, 255, 255, 255, 255, 255, 0, 1, 2, 3, 4, 5, 6, 7, 8, 9, 255, 255, 255,
-    255, 255, 255, 255, 10, 11, 12, 13, 14, 15, 255, 255, 255, 255, 255, 255, 255, 255, 255, 255,
-    255, 255, 255, 255, 255, 255, 255, 255, 255, 255, 255, 255, 255, 255, 255, 255, 10, 11, 12, 13,
-    14, 15, 255, 255, 255, 255, 255, 255, 255, 255, 255, 255, 255, 255, 255, 255, 255, 255, 255,
-    255, 255, 255, 255, 255, 255, 255, 255, 255, 255, 255, 255, 255, 255, 255, 255, 255, 255, 255,
-    255, 255, 255, 255, 255, 255, 255, 255, 255, 255, 255, 255, 255, 255, 255, 255, 255, 255, 255,
-    255, 255, 255, 255, 255, 255, 255, 255, 255, 255, 255, 255, 255, 255, 255, 255, 255, 255, 255,
-    255, 255, 255, 255, 255, 255, 255, 255, 255, 255, 255, 255, 255, 255, 255, 255, 255, 255, 255,
-    255, 255, 255, 255, 255, 255, 255, 255, 255, 255, 255, 255, 255, 255, 255, 255, 255, 255, 255,
-    255, 255, 255, 255, 255, 255, 255, 255, 255, 255, 255, 255, 255, 255, 255, 255, 255, 255, 255,
-    255, 255, 255, 255, 255, 255, 255, 255, 255, 255, 255, 255, 255, 255, 255, 255, 255, 255, 255,
-    255, 255, 255,
-];
-
-fn value_of(digit: u8) -> u8
-    ensures { result ≡ unwrap_or (hex_digit_value digit) 255 }
+// Whether a byte is a digit. Has no branch, so that many bytes are tested at once.
+fn is_digit(byte: u8) -> bool
+    ensures { result ≡ is_hex_digit byte }
 {
-    VALUES[digit as usize]
+    let is_decimal = (b'0' <= byte) & (byte <= b'9');
+    let is_upper = (b'A' <= byte) & (byte <= b'F');
+    let is_lower = (b'a' <= byte) & (byte <= b'f');
+    is_decimal | is_upper | is_lower
 }
 
-// The byte of two digits, the first of them the higher.
-#[tactic(auto, using(crate::proofs::HexDigits::pair_of, crate::proofs::HexDigits::no_pair))]
-fn byte_of(high: u8, low: u8) -> Option<u8>
-    ensures { (i : ℕ) → MatchOption result (IsErr (pair_value high low i)) (λ byte. pair_value high low i ≡ Ok byte) }
+fn are_digits(text: &[u8]) -> bool
+    ensures { result ≡ list_all is_hex_digit text.now }
 {
-    let high_value = value_of(high);
-    let low_value = value_of(low);
-    if high_value < 16 && low_value < 16 {
-        Some(high_value * 16 + low_value)
-    } else {
-        None
+    let mut all = true;
+    for byte in text {
+        all &= is_digit(*byte);
     }
+    all
 }
 
-// Writes the byte of each pair of digits, and tells whether all are digits.
-fn decode_into(text: &[u8], bytes: &mut [u8]) -> bool
-    requires { length text.now ≡ 2 * length bytes.old }
-    ensures { MatchBool result (decode_pairs 0 text.now ≡ Ok bytes.new) (IsErr (decode_pairs 0 text.now)) }
+// The byte of two digits. A digit's value is its low four bits, and 9 more of a letter. Both are taken from one number,
+// so that many bytes are made at once.
+fn byte_of(high: u8, low: u8) -> u8
+    requires high { is_hex_digit high ≡ true }
+    requires low { is_hex_digit low ≡ true }
+    ensures { (i : ℕ) → pair_value high low i ≡ Ok result }
+{
+    let pair = u16::from_be_bytes([high, low]);
+    let sixteens = pair / 256 % 16 * 16 + pair / 16384 * 144;
+    let units = pair % 16 + pair / 64 % 4 * 9;
+    (sixteens + units) as u8
+}
+
+// Writes the byte of each pair of digits.
+fn decode_into(text: &[u8], bytes: &mut [u8])
+    requires len { length text.now ≡ 2 * length bytes.old }
+    requires digits { list_all is_hex_digit text.now ≡ true }
+    ensures { decode_pairs 0 text.now ≡ Ok bytes.new }
 {
     'pairs: for i in 0..bytes.len() {
-        bytes[i] = match byte_of(text[2 * i], text[2 * i + 1]) {
-            Some(byte) => byte,
-            None => return false,
-        };
+        bytes[i] = byte_of(text[2 * i], text[2 * i + 1]);
     }
-    true
 }
 
 #[tactic(auto, using(crate::proofs::HexDigits::decoded_is, crate::proofs::HexDigits::decoded_none, crate::proofs::HexDigits::decoded_odd))]
@@ -66,13 +58,10 @@ fn decode_into(text: &[u8], bytes: &mut [u8]) -> bool
 pub fn decoded(alloc: Global, text: &[u8]) -> Result<Bytes, LineFault>
     ensures { Gives (λ bytes. bytes) result (decoded (decode_of text.now)) }
 {
-    if text.len() % 2 == 1 {
+    if text.len() % 2 == 1 || !are_digits(text) {
         return Err(LineFault::Bad);
     }
     let mut bytes = vec![in alloc; 0u8; text.len() / 2]?;
-    if decode_into(text, bytes.as_mut_slice()) {
-        Ok(Bytes::from_vec(bytes))
-    } else {
-        Err(LineFault::Bad)
-    }
+    decode_into(text, bytes.as_mut_slice());
+    Ok(Bytes::from_vec(bytes))
 }

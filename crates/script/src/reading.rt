@@ -1,6 +1,7 @@
 // A script's lines, read.
 ghost use Rattle.std.specs.Prelude.{◌≡◌, ◌+◌, ◌≤◌, ◌^◌, length, MatchResult, IfOk, Ok};
-ghost use Rattle.memchr.specs.Find.{is_byte, places};
+ghost use Rattle.std.specs.List.{count_by};
+ghost use Rattle.memchr.specs.Find.{is_byte};
 ghost use Rattle.grammar_spec.specs.Lines.{line_of, script_of};
 ghost use Rattle.grammar_spec.specs.Printed.{AllHaveFields};
 ghost use Rattle.script.specs.Reading.{ReadsLine, IsFaultOf};
@@ -8,7 +9,6 @@ ghost use Rattle.script.specs.declared.reading.ParseFault.TheVariants.{Memory};
 
 use crate::rows::{self, LineFault};
 use crate::{Line, Lines};
-use memchr::memchr_iter;
 use std::alloc::{AllocError, AllocFailed, Global};
 use thiserror::Error;
 
@@ -59,10 +59,28 @@ fn number_after(count: usize) -> Result<u32, ParseFault>
     }
 }
 
-fn newlines(script: &[u8]) -> usize
-    ensures { result ≡ length (places (is_byte 0x0a) script.now) }
+// How many newlines a piece has. A byte counts them, so that many bytes are tested at once.
+fn newlines_in(piece: &[u8]) -> u8
+    requires { length piece.now ≤ 255 }
+    ensures { result ≡ count_by (is_byte 0x0a) piece.now }
 {
-    memchr_iter(b'\n', script).count()
+    let mut count = 0u8;
+    'bytes: for i in 0..piece.len() {
+        if piece[i] == b'\n' {
+            count += 1;
+        }
+    }
+    count
+}
+
+fn newlines(script: &[u8]) -> usize
+    ensures { result ≡ count_by (is_byte 0x0a) script.now }
+{
+    let mut count = 0;
+    for piece in script.chunks(192) {
+        count += newlines_in(piece) as usize;
+    }
+    count
 }
 
 /// The lines of a script, each ended by a newline. Where 32 bits do not count its lines, the answer is out of memory.
