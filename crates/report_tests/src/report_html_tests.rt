@@ -9,7 +9,7 @@ use std::test::Fail;
 
 #[test]
 fn escaped_rows(rt: HostRuntime) -> Result<(), Fail> {
-    let rows: [(&[u8], &str); 6] = [
+    let rows: [(&[u8], &str); 8] = [
         (
             b"<script>alert('x')</script>",
             "&lt;script&gt;alert(&#39;x&#39;)&lt;/script&gt;",
@@ -19,6 +19,11 @@ fn escaped_rows(rt: HostRuntime) -> Result<(), Fail> {
         (b"a&b\tc\n", "a&amp;b\tc\n"),
         (&[0x1b, 0xff, 0xc3, 0x28, 0], "\\x1b\\xff\\xc3(\\x00"),
         (b"C:\\x41", "C:\\x5cx41"),
+        (&[0x1f, 0x20, 0x7e, 0x7f, 0x80], "\\x1f ~\\x7f\\x80"),
+        (
+            b"thirty-two bytes without markup <then fewer",
+            "thirty-two bytes without markup &lt;then fewer",
+        ),
     ];
     for (bytes, text) in rows {
         let mut out = Vec::new(rt.alloc());
