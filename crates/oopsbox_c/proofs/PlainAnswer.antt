@@ -29,7 +29,7 @@ use Rattle.oopsbox_c.proofs.PlainStores.{call_is_plain, total_is_plain}
 some_block : (z : Zone) → IsValidZone z → 0 < z.block
 some_block z valid = elim valid.block [
   | inl a ↦ omega (arith, a)
-  | inr b ↦ elim b [ | inl c ↦ omega (arith, c) | inr d ↦ omega (arith, d) ]
+  | inr b ↦ elim b [ inl c ↦ omega (arith, c) | inr d ↦ omega (arith, d) ]
 ]
 
 -- before the first store the image is that before the call

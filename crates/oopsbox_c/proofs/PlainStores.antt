@@ -146,9 +146,14 @@ length-plain_runs : (z : Zone) (start : ℕ) (bytes : List ℕ) → length (plai
 length-plain_runs z start bytes =
     let front : List ℕ = take (z.cap - start) bytes in
     let back : List ℕ = drop (z.cap - start) bytes in
-    omega (arith, length-append (byte_stores (12 + start) front) (byte_stores 12 back),
-    length-byte_stores (12 + start) front, length-byte_stores 12 back, length-take (z.cap - start) bytes,
-    length-drop (z.cap - start) bytes)
+    omega (
+      arith,
+      length-append (byte_stores (12 + start) front) (byte_stores 12 back),
+      length-byte_stores (12 + start) front,
+      length-byte_stores 12 back,
+      length-take (z.cap - start) bytes,
+      length-drop (z.cap - start) bytes,
+    )
 
 length-plain_words : (z : Zone) (start size n : ℕ)
     → length (plain_words z start size n) ≡ (if size == z.cap then 1 else 2)

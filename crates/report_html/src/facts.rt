@@ -26,9 +26,7 @@ pub fn add_when(pieces: &mut Vec<Piece<'_>>, time: Option<Time>) -> Result<(), A
         ),
         None => add(
             pieces,
-            &[Piece::Own(
-                "<table class=\"fact\">\n<tr><th scope=\"row\">When</th><td>no date",
-            )],
+            &[Piece::Own("<table class=\"fact\">\n<tr><th scope=\"row\">When</th><td>no date")],
         ),
     }
 }

@@ -88,7 +88,10 @@ const OTHERWISE: &[(&str, &str)] = &[
     ("#\n# a note, \x7e\x7f\n\n", "\n\n\n"),
     ("#write console 6\n", "\n"),
     ("write console 0aFfB0\n", "write console 0affb0\n"),
-    ("write pmsg 0123456789abcdefABCDEF\n", "write pmsg 0123456789abcdefabcdef\n"),
+    (
+        "write pmsg 0123456789abcdefABCDEF\n",
+        "write pmsg 0123456789abcdefabcdef\n",
+    ),
     ("kdump 1 2 C Oops AB\n", "kdump 1 2 C Oops ab\n"),
     ("kmsg 0B0d\nreserve 0A\n", "kmsg 0b0d\nreserve 0a\n"),
 ];
