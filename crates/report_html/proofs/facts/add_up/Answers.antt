@@ -8,7 +8,7 @@ use Rattle.report_html.proofs.facts.add_up.Goals as goal
 pub returns-clause-parts : goal.returns-clause-parts
 returns-clause-parts c =
     let old : List Part = parts c.args.pieces.now.items in
-    on_ok_weaker c.add.result
+    on_ok_weaker c.add-2.result
     (λ e. e ∙ ap (λ (more : List Part). old ++ more)
     (up_is c.args.uptime.now c.seconds.result (sym c.is_empty.ensures ∙ c.if-is_empty.false) c.seconds.ensures))
-    c.add.ensures
+    c.add-2.ensures
