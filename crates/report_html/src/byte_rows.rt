@@ -1,4 +1,4 @@
-// Each byte as a page shows it, as a number: from the low end the bytes of its text, then zeros, and on top their count.
+// Each byte as a page shows it, as a number: from the low end its text, then zeros, and on top the text's length.
 pub const ROWS: [u64; 256] = [
     0x040000003030785c,
     0x040000003130785c,
