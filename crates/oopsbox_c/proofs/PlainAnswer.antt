@@ -1,5 +1,5 @@
 -- An append without parity, handed out whole, is at its end
-use Rattle.std.proofs.Common.{◌≡◌, ℕ, ◌+◌, ◌<◌, ◌≤◌, List, [], ◌++◌, length, take, drop, refl, sym, ap, ap₂, ◌∙◌, subst, arith}
+use Rattle.std.proofs.Common.{◌≡◌, ℕ, ◌<◌, List, [], length, take, drop, refl, sym, ap, ◌∙◌, subst, arith}
 use Rattle.std.proofs.Common.{inl, inr, append-nil}
 use Rattle.std.proofs.lemmas.List.{nil_from_length, take_all}
 use Rattle.zone_spec.specs.declared.Zone.{Zone}
@@ -11,9 +11,7 @@ use Rattle.zone_spec.specs.Zones.{IsValidZone}
 use Rattle.zone_spec.specs.Stores.{Store, after_stores}
 use Rattle.zone_spec.specs.Stages.{stores_in_turn}
 use Rattle.zone_spec.specs.Calls.{call_stores, call_stages, IsUnderway}
-use Rattle.zone_spec.specs.Ring.{IsOpen}
 use Rattle.store_steps.specs.Calls.{call_of, IsOpenFor}
-use Rattle.store_steps.specs.Flying.{Flying}
 use Rattle.store_steps.specs.Machine.{IsKept, StandsFor, stores_left}
 use Rattle.store_steps.specs.Counts.{total_of}
 use Rattle.store_steps.proofs.StoresLeft.{counted}
@@ -53,12 +51,6 @@ module _ (f : Flight) (payload : List ℕ) (count : ℕ) (out : Stores) (was : I
     (inside : AreInside f.zone.size out [] payload)
     (counts : count ≡ length (plain_stores (zone_in f.zone) f.old_start f.old_size (last_items f.zone.cap payload)))
     (empty : count ≡ 0 → out.count ≡ 0) where
-  z : Zone
-  z = zone_in f.zone
-
-  call : Call
-  call = call_of (call_in f.kind) [] payload
-
   is_append : call_of (call_in f.kind) [] payload ≡ Append payload
   is_append = ap (λ (k : CallKind). call_of k [] payload) kind
 

@@ -1,6 +1,7 @@
 -- An append to a zone without parity stores its words and its bytes, and nothing else
-use Rattle.std.proofs.Common.{◌≡◌, ℕ, ◌+◌, ◌-◌, ◌*◌, ◌/◌, ◌%◌, ◌<◌, ◌≤◌, min, if◌then◌else◌, ◌==◌, List, [], ◌∷◌, ◌++◌}
-use Rattle.std.proofs.Common.{length, take, drop, map, refl, sym, ap, ◌∙◌, arith, append_assoc, append-nil, length-append}
+use Rattle.std.proofs.Common.{◌≡◌, ℕ, ◌+◌, ◌-◌, ◌%◌, ◌<◌, ◌≤◌, if◌then◌else◌, min, ◌==◌, List, [], ◌∷◌, ◌++◌}
+use Rattle.std.proofs.Common.{length, take, drop, map, refl, sym, ap, ◌∙◌, arith, append_assoc, append-nil}
+use Rattle.std.proofs.Common.{length-append}
 use Rattle.std.proofs.Common.{length-take, length-drop, inl, inr}
 use Rattle.std.proofs.lemmas.Bool.Decides.{eqb_tells}
 use Rattle.std.proofs.lemmas.List.{take_all, drop_all}
@@ -9,7 +10,8 @@ use Rattle.zone_spec.specs.declared.Words.{Words}
 use Rattle.zone_spec.specs.Parts.{Part, Header, Block, part_bytes, part_parity_at, standing_words}
 use Rattle.zone_spec.specs.Told.{Append, last_items}
 use Rattle.zone_spec.specs.Stores.{Store, after_stores, byte_stores, word_store}
-use Rattle.zone_spec.specs.Stages.{Stage, StartWord, SizeWord, Run, ParityOf, stage_stores, stores_in_turn, blocks_met}
+use Rattle.zone_spec.specs.Stages.{Stage, StartWord, SizeWord, Run, ParityOf, stage_stores, stores_in_turn}
+use Rattle.zone_spec.specs.Stages.{blocks_met}
 use Rattle.zone_spec.specs.Calls.{call_stores, call_stages, append_stages, run_stages}
 use Rattle.ring_laws.proofs.StoreCounts.{length-byte_stores}
 use Rattle.prz_ecc.proofs.Readings.{parity_of-none}
@@ -17,7 +19,7 @@ use Rattle.store_steps.specs.Calls.{last_of}
 use Rattle.store_steps.proofs.StoresLeft.{in_turn_next, counted}
 use Rattle.store_steps.proofs.Parts.{append_begins_ne, append_begins_full, sized}
 use Rattle.store_steps.proofs.Totals.{append_count, stages_append}
-use Rattle.oopsbox_c.specs.PlainAppends.{plain_size, plain_words, plain_runs, plain_stores}
+use Rattle.oopsbox_c.specs.PlainAppends.{plain_words, plain_runs, plain_stores}
 
 none_stored : (z : Zone) (part : Part) (image : List ℕ) → z.parity ≡ 0 → stage_stores z (ParityOf part) image ≡ []
 unfolding stage_stores byte_stores

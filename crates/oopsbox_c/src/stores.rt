@@ -73,7 +73,8 @@ impl StoreRow {
     /// A word at once.
     fn set_word(&mut self, order: ByteOrder, place: u32, word: u32)
         ensures stores { (line payload : List ℕ) → row_stores self.new line payload ≡ word_store order place word }
-        ensures inside { (size : ℕ) (line payload : List ℕ) → place + 4 ≤ size → IsRowInside size self.new line payload }
+        ensures inside { (size : ℕ) (line payload : List ℕ) → place + 4 ≤ size
+            → IsRowInside size self.new line payload }
     {
         self.from = 0;
         self.what = 0;

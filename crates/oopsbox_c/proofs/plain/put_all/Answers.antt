@@ -1,5 +1,5 @@
 -- The words and the runs are all stores of the append. For `put_all`.
-use Rattle.std.proofs.Common.{◌≡◌, List, ℕ, ◌++◌, length, ap, ◌∙◌, arith}
+use Rattle.std.proofs.Common.{List, ℕ, ◌++◌, ap, ◌∙◌, arith}
 use Rattle.zone_spec.specs.Stores.{Store}
 use Rattle.zone_spec.specs.Told.{last_items}
 use Rattle.oopsbox_c.specs.PlainAppends.{plain_runs}

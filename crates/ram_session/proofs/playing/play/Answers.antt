@@ -99,7 +99,8 @@ loop-line-preserved-then-is_call g c =
     }
 
 pub returns-in-Err-play_line-clause-counts : goal.returns-in-Err-play_line-clause-counts
-returns-in-Err-play_line-clause-counts g c = λ other. c.in-Err-play_line.ensures.counts other ∙ c.loop-line.invariant.same
+returns-in-Err-play_line-clause-counts g c = λ other.
+    c.in-Err-play_line.ensures.counts other ∙ c.loop-line.invariant.same
 
 pub returns-clause-counts : goal.returns-clause-counts
 returns-clause-counts g c = c.loop-line.invariant.same
