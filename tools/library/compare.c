@@ -150,6 +150,27 @@ static void compare_boots(void)
 	stores_made += total;
 }
 
+/* Whether two answers hand out the same stores, by the members that a kind of store has. */
+static int are_same(const struct oopsbox_stores *a, const struct oopsbox_stores *b)
+{
+	if (a->count != b->count || a->is_last != b->is_last)
+		return 0;
+	for (uint32_t i = 0; i < a->count; i++) {
+		const struct oopsbox_store *x = &a->stores[i], *y = &b->stores[i];
+		if (x->what != y->what || x->place != y->place || x->len != y->len)
+			return 0;
+		if (x->what == OOPSBOX_WORD && x->word != y->word)
+			return 0;
+		if (x->what == OOPSBOX_WORD || x->what == OOPSBOX_BYTES) {
+			if (memcmp(x->bytes, y->bytes, x->len) != 0)
+				return 0;
+		} else if (x->from != y->from) {
+			return 0;
+		}
+	}
+	return 1;
+}
+
 /* oopsbox_append answers what a begin and the first answer do. */
 static void compare_append(struct zone *z, size_t length, const struct oopsbox_flight *begun)
 {
@@ -160,7 +181,9 @@ static void compare_append(struct zone *z, size_t length, const struct oopsbox_f
 	if (oopsbox_append(&z->place, z->bytes, z->place.size, payload, length, &one, &a) != OOPSBOX_DONE
 	    || next_stores(z, &two, NULL, 0, payload, length, UINT32_MAX, &b) != OOPSBOX_DONE)
 		fails("no append", length);
-	if (memcmp(&one, &two, sizeof(one)) != 0 || memcmp(&a, &b, sizeof(a)) != 0)
+	/* Without parity the call is at its end: of its flight, what was made and that count. */
+	int is_same = z->place.parity != 0 ? memcmp(&one, &two, sizeof(one)) == 0 : one.made == two.made && one.phase == two.phase;
+	if (!is_same || !are_same(&a, &b))
 		fails("another append", length);
 }
 
