@@ -182,7 +182,8 @@ static void compare_append(struct zone *z, size_t length, const struct oopsbox_f
 	    || next_stores(z, &two, NULL, 0, payload, length, UINT32_MAX, &b) != OOPSBOX_DONE)
 		fails("no append", length);
 	/* Without parity the call is at its end: of its flight, what was made and that count. */
-	int is_same = z->place.parity != 0 ? memcmp(&one, &two, sizeof(one)) == 0 : one.made == two.made && one.phase == two.phase;
+	int is_same = z->place.parity != 0 ? memcmp(&one, &two, sizeof(one)) == 0
+					   : one.made == two.made && one.phase == two.phase;
 	if (!is_same || !are_same(&a, &b))
 		fails("another append", length);
 }
