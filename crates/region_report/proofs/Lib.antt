@@ -11,3 +11,4 @@ pub mod ReasonRows
 pub mod DigitRuns
 pub mod SaidLines
 pub mod ConsoleLogs
+pub mod SameLines
