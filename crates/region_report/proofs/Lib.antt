@@ -12,3 +12,5 @@ pub mod DigitRuns
 pub mod SaidLines
 pub mod ConsoleLogs
 pub mod SameLines
+pub mod MendedLines
+pub mod MendedRecords

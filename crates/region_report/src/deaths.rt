@@ -103,7 +103,7 @@ pub fn death_told(records: &[RecordReport]) -> Option<Telling<'_>>
     told_of(told_by(newest_dump(records)), told_by(console(records)))
 }
 
-fn is_same_dump(name: Name, other: Name) -> bool
+pub fn is_same_dump(name: Name, other: Name) -> bool
     ensures { result ≡ is_dump_named name other }
 {
     match (name, other) {

@@ -9,6 +9,8 @@ mod ends;
 mod excerpts;
 mod facts;
 mod laws;
+mod mended;
+mod mending;
 mod moments;
 mod naming;
 mod newest;
