@@ -1,6 +1,5 @@
 -- All records are mended by the mendings of the console and the newest dump. For `records_mended`.
 use Rattle.std.proofs.Common.{◌≡◌, List, Option, map, ap, ◌∙◌}
-use Rattle.std.specs.Option.{option_map}
 use Rattle.zone_spec.specs.declared.Name.{Name}
 use Rattle.zone_spec.specs.PartStates.{PartStates}
 use Rattle.report_spec.specs.Packed.{RecordShown}

@@ -1,12 +1,9 @@
 -- Bytes that agree one by one, the digits of a stamp, and the first lines of a text by their keys. For `same_lines`.
-use Rattle.std.proofs.Common.{◌≡◌, ℕ, suc, ◌+◌, ◌-◌, ◌≤◌, ◌<◌, ◌&&◌, true, false, Bool, List, length, drop, get_or, ap}
-use Rattle.std.proofs.Common.{if◌then◌else◌, Option, Some, None, nat_eq, refl, sym, ◌∙◌, arith}
+use Rattle.std.proofs.Common.{◌≡◌, ℕ, suc, ◌+◌, ◌-◌, ◌≤◌, ◌<◌, ◌&&◌, true, Bool, List, length, drop, get_or, ap}
+use Rattle.std.proofs.Common.{arith}
 use Rattle.std.proofs.lemmas.List.{drop_all, drop_more}
 use Rattle.std.specs.List.{list_all, range_with_len}
-use Rattle.std.specs.Option.{option_or}
-use Rattle.death_spec.specs.declared.Line.{Line}
 use Rattle.report_spec.specs.Mending.{digits_from, number_and}
-use Rattle.region_report.specs.Mendings.{is_same_key}
 
 pub all-first : (f : ℕ → Bool) (k n : ℕ) → k < n
     → list_all f (range_with_len k (n - k)) ≡ (f k && list_all f (range_with_len (k + 1) (n - (k + 1))))

@@ -135,7 +135,7 @@ pub report-is : (zones : List Zone) (names : List ℕ) (given : Option EntryForm
     (spans : List (List ℕ)) (r : Readings) (shown records : List RecordShown) → spans ≡ (cut_at zones image).spans
     → ReadsTo zones spans (length zones) r → AreShown zones names (records_traced zones given (saved r.logs)) shown
     → records ≡ records_mended r.parts.items
-        (map (λ (s : RecordShown). with_doubts zones (saved r.logs) r.parts.items s) shown)
+    (map (λ (s : RecordShown). with_doubts zones (saved r.logs) r.parts.items s) shown)
     → IsReport zones names given image (record {
       origin = Region;
       logs = r.logs;

@@ -48,7 +48,11 @@ fn seen(entry: &RecordReport) -> Seen<'_>
     }
 }
 
-fn mending_by(alloc: Global, entry: &RecordReport, other: &RecordReport) -> Result<Mending, AllocError>
+fn mending_by(
+    alloc: Global,
+    entry: &RecordReport,
+    other: &RecordReport,
+) -> Result<Mending, AllocError>
     ensures { IfOk result (λ m. m ≡ mending_by_record entry.now other.now) }
 {
     let MendedText { text, doubts } = mended(alloc, &seen(entry), &seen(other))?;

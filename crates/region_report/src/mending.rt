@@ -103,7 +103,13 @@ impl MendedText {
     ghost use Rattle.region_report.specs.Mendings.{Mends};
 
     // Adds a line of a text, of which another has these lines.
-    fn add(&mut self, a: &Seen<'_>, b: &Seen<'_>, places: &Places, line: Line) -> Result<(), AllocError>
+    fn add(
+        &mut self,
+        a: &Seen<'_>,
+        b: &Seen<'_>,
+        places: &Places,
+        line: Line,
+    ) -> Result<(), AllocError>
         requires { (q : ℕ × ℕ) → get is_same_key places.now q
             ≡ find (is_keyed b.now.text.now q) (lines_from b.now.text.now 0) }
         ensures { IfOk result (λ _. Mends (as_seen a.now) (as_seen b.now) line self.old self.new) }

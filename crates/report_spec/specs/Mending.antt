@@ -87,7 +87,7 @@ mended_line a b line None = part a.text line.start line.next
 mended_line a b line (Some other) =
     part a.text line.start line.stamp
     ++ map (mended_byte (stamped_in a line) (stamped_in b other))
-        (range_with_len 0 (length (stamped_in a line).text))
+    (range_with_len 0 (length (stamped_in a line).text))
     ++ part a.text line.end line.next
 
 abbrev pub line_doubts : (a b : Seen) → Line → Option Line → List Bool
@@ -95,7 +95,7 @@ line_doubts a b line None = doubts_between a.doubts line.start line.next
 line_doubts a b line (Some other) =
     doubts_between a.doubts line.start line.stamp
     ++ map (still_doubted (stamped_in a line) (stamped_in b other))
-        (range_with_len 0 (length (stamped_in a line).text))
+    (range_with_len 0 (length (stamped_in a line).text))
     ++ doubts_between a.doubts line.end line.next
 
 -- of some lines of a text
@@ -179,5 +179,5 @@ mended_in console dump name r =
 abbrev pub records_mended : List PartStates → List RecordShown → List RecordShown
 records_mended parts records =
     map (mended_in (mending parts (console_of records) (newest records))
-        (mending parts (newest records) (console_of records))
-        (option_map (λ (dump : RecordShown). dump.name) (newest records))) records
+    (mending parts (newest records) (console_of records))
+    (option_map (λ (dump : RecordShown). dump.name) (newest records))) records

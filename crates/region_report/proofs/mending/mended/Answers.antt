@@ -1,5 +1,4 @@
 -- One line more, and all of the text in the end. For `mended`.
-use Rattle.std.proofs.Common.{ℕ, List}
 use Rattle.death_spec.specs.Lines.{lines_from}
 use Rattle.report_spec.specs.Mending.{mended_text, doubts_left}
 use Rattle.region_report.specs.Mendings.{as_seen}

@@ -1,5 +1,5 @@
 -- The bytes so far
-use Rattle.std.proofs.Common.{◌≡◌, ◌-◌, ◌+◌, ◌≤◌, ◌++◌, map}
+use Rattle.std.proofs.Common.{◌≡◌, ◌≤◌, ◌++◌, map}
 use Rattle.std.specs.List.{range_with_len}
 use Rattle.report_spec.specs.Mending.{mended_byte}
 use Rattle.region_report.specs.Mendings.{as_seen}

@@ -1,5 +1,5 @@
 -- One byte more. For the loop of `all_agree`.
-use Rattle.std.proofs.Common.{◌≡◌, ◌+◌, ◌-◌, ◌&&◌, ℕ, Bool, sym, ◌∙◌, ap, arith}
+use Rattle.std.proofs.Common.{◌+◌, ◌-◌, ◌&&◌, ℕ, Bool, sym, ◌∙◌, ap}
 use Rattle.std.specs.List.{list_all, range_with_len}
 use Rattle.report_spec.specs.Mending.{agree}
 use Rattle.region_report.specs.Mendings.{as_seen}
