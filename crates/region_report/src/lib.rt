@@ -22,7 +22,7 @@ mod traced;
 mod warnings;
 
 pub use counted::counts;
-pub use deaths::{Telling, death_told, has_telling_line, other_told, others_told};
+pub use deaths::{Telling, death_time, death_told, has_telling_line, other_told, others_told};
 pub use doubts::{doubts_between, has_doubt};
 pub use ends::{End, dump_reason, end_text, end_told};
 pub use excerpts::{below, place_above};
