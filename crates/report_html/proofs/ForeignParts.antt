@@ -22,11 +22,12 @@ use Rattle.zone_spec.specs.declared.PartState.{PartState}
 use Rattle.zone_spec.specs.declared.PartState.TheVariants.{Read, Bad}
 use Rattle.report_spec.specs.Escaped.{escaped, IsText}
 use Rattle.zone_spec.specs.PartStates.{PartStates}
+use Rattle.report_spec.specs.declared.Mended.{Mended}
 use Rattle.report_spec.specs.declared.Packing.{Packing}
 use Rattle.report_spec.specs.declared.Packing.TheVariants.{Plain, Whole, Part as PartOfText}
 use Rattle.report_spec.specs.Packed.{RecordShown, readable}
 use Rattle.report_spec.specs.Newest.{newest, console_of}
-use Rattle.report_spec.specs.Deaths.{DeathTold, death_told}
+use Rattle.report_spec.specs.Deaths.{DeathTold, death_told, death_time}
 use Rattle.report_spec.specs.Doubts.{doubts_between}
 use Rattle.report_spec.specs.Ends.{EndTold, end_told}
 use Rattle.report_spec.specs.Facts.{MachineTold, trimmed, uptime_of, machine_of, machine_ended, signature_told}
@@ -60,7 +61,7 @@ use Rattle.report_html.specs.Died.{second_parts, said_parts, why_parts, fact_par
 use Rattle.report_spec.specs.Excerpts.{place_above, below}
 use Rattle.report_html.specs.Died.{context_parts, rest_parts, rest_end, excerpt_parts, folded_parts, shown_opening}
 use Rattle.report_html.specs.Died.{before_folded, after_folded, around_parts}
-use Rattle.report_html.specs.Died.{console_words, teller_parts, death_parts, died_parts, second_bytes}
+use Rattle.report_html.specs.Died.{console_words, mended_parts, teller_parts, death_parts, died_parts, second_bytes}
 use Rattle.report_html.specs.Died.{said_bytes, why_bytes, context_bytes, rest_bytes, excerpt_bytes, around_bytes, death_bytes}
 use Rattle.report_html.specs.Died.{died_bytes}
 use Rattle.report_html.specs.Listed.{below_parts, telling_parts, above_parts, say_parts, first_parts, head_parts, unfolded}
@@ -432,7 +433,12 @@ of-before (Some t) =
     (and-of (head ++ time) line [] said (and-none head time [] refl (of-after t.teller.time)) refl)
     (of-context-below text t.death)) refl
 
-of-teller : (zones : List Saved) (name : Name) (words : List ℕ) → foreign_of (teller_parts zones name words) ≡ []
+of-mended : (mended : Option (Mended (List ℕ))) → foreign_of (mended_parts mended) ≡ []
+of-mended None = refl
+of-mended (Some mended) = refl
+
+of-teller : (zones : List Saved) (name : Name) (mended : Option (Mended (List ℕ))) (words : List ℕ)
+    → foreign_of (teller_parts zones name mended words) ≡ []
 of-teller zones name words =
     let front : List Part = Words (codes "<tr><th scope=\"row\">Told by</th><td>") ∷ Link name ∷ Words words
     ∷ Words READ.now ∷ [] in
