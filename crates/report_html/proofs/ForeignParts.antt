@@ -439,12 +439,14 @@ of-mended (Some mended) = refl
 
 of-teller : (zones : List Saved) (name : Name) (mended : Option (Mended (List ℕ))) (words : List ℕ)
     → foreign_of (teller_parts zones name mended words) ≡ []
-of-teller zones name words =
-    let front : List Part = Words (codes "<tr><th scope=\"row\">Told by</th><td>") ∷ Link name ∷ Words words
-    ∷ Words READ.now ∷ [] in
+of-teller zones name mended words =
+    let front : List Part = Words (codes "<tr><th scope=\"row\">Told by</th><td>") ∷ Link name ∷ [] in
+    let more : List Part = Words words ∷ Words READ.now ∷ [] in
     let back : List Part = Words TOLD.now ∷ Named name ∷ Words (codes "</h2>\n") ∷ [] in
-    and-none (front ++ read_parts zones name) back []
-    (and-none front (read_parts zones name) [] refl (of-read zones name)) refl
+    and-none (front ++ mended_parts mended ++ more ++ read_parts zones name) back []
+    (and-none (front ++ mended_parts mended ++ more) (read_parts zones name) []
+    (and-none (front ++ mended_parts mended) more [] (and-none front (mended_parts mended) [] refl (of-mended mended))
+    refl) (of-read zones name)) refl
 
 of-death : (signature : List ℕ) (zones : List Saved) (records : List RecordShown) (t : DeathTold)
     → foreign_of (death_parts signature zones records t) ≡ death_bytes signature records t
@@ -452,15 +454,16 @@ of-death signature zones records t =
     let text : List ℕ = readable t.teller in
     let name : Name = t.teller.name in
     let words : List ℕ = console_words t (console_of records) in
-    let facts : List Part = when_parts t.teller.time ++ up_parts (uptime_of text t.death.telling)
+    let facts : List Part = when_parts (death_time t (newest records)) ++ up_parts (uptime_of text t.death.telling)
     ++ context_parts text t.death ++ bytes_parts (codes "Signature") signature
     ++ machine_parts (machine_of t (console_of records)) ++ before_parts (told_before name records) in
     let own : List (List ℕ) = some_bytes (uptime_of text t.death.telling) ++ context_bytes text t.death
     ++ some_bytes signature ++ machine_bytes (machine_of t (console_of records))
     ++ before_bytes (told_before name records) in
     let first : foreign_of facts ≡ own = simp (both, of-when, of-up, of-fact, of-bytes, of-before, append-nil) in
-    and-of (facts ++ teller_parts zones name words) (around_parts name t.teller.doubts text t.death) own (around_bytes text t.death)
-    (and-none facts (teller_parts zones name words) own first (of-teller zones name words))
+    let teller : List Part = teller_parts zones name t.teller.mended words in
+    and-of (facts ++ teller) (around_parts name t.teller.doubts text t.death) own (around_bytes text t.death)
+    (and-none facts teller own first (of-teller zones name t.teller.mended words))
     (of-around name t.teller.doubts text t.death)
 
 of-ending : (zones : List Saved) (t : Option EndTold) → foreign_of (ending_parts zones t) ≡ end_bytes t
