@@ -329,10 +329,7 @@ fn console_text(told: &Telling<'_>, console: Option<&RecordReport>) -> &'static 
 }
 
 /// Adds by which record a text is mended.
-fn add_mended(
-    pieces: &mut Vec<Piece<'_>>,
-    mended: Option<&Mended<Bytes>>,
-) -> Result<(), AllocError>
+fn add_mended(pieces: &mut Vec<Piece<'_>>, mended: Option<&Mended<Bytes>>) -> Result<(), AllocError>
     ensures { OnOk result (parts pieces.new.items
         ≡ parts pieces.old.items ++ mended_parts (option_copied mended.entry)) }
 {

@@ -25,11 +25,11 @@ pub record Seen : Type 0 where
 abbrev pub is_doubted : Seen → ℕ → Bool
 is_doubted s k = unwrap_or (slice_get s.doubts k) false
 
--- a line from its stamp on: a dump has a level in front of it, and a console has none
+-- a line from its stamp on, with its newline: a dump has a level in front of it, and a console has none
 abbrev pub stamped_in : Seen → Line → Seen
 stamped_in s line = record {
-  text = part s.text line.stamp line.end;
-  doubts = doubts_between s.doubts line.stamp line.end;
+  text = part s.text line.stamp line.next;
+  doubts = doubts_between s.doubts line.stamp line.next;
 }
 
 -- ---- the same line
@@ -47,7 +47,7 @@ digits_from n (b ∷ bs) = digits_from (number_and n b) bs
 
 -- lines are looked for by the number of the stamp, and by how long they are from it on
 abbrev pub key_of : List ℕ → Line → ℕ × ℕ
-key_of text line = (digits_from 0 (part text line.stamp line.caller), line.end - line.stamp)
+key_of text line = (digits_from 0 (part text line.stamp line.caller), line.next - line.stamp)
 
 abbrev pub is_keyed : List ℕ → ℕ × ℕ → Line → Bool
 is_keyed text key line =
@@ -68,7 +68,7 @@ partner_if a b line (Some other) = if can_be (stamped_in a line) (stamped_in b o
 -- the line of another text that a line with doubtful bytes is: the first of its stamp and length, if it can be that line
 abbrev pub partner : (a b : Seen) → Line → Option Line
 partner a b line =
-    if has_stamp line && has_doubt a.doubts line.stamp line.end
+    if has_stamp line && has_doubt a.doubts line.stamp line.next
     then partner_if a b line (find (is_keyed b.text (key_of a.text line)) (lines_from b.text 0)) else None
 
 -- ---- a text, mended
@@ -88,7 +88,6 @@ mended_line a b line (Some other) =
     part a.text line.start line.stamp
     ++ map (mended_byte (stamped_in a line) (stamped_in b other))
     (range_with_len 0 (length (stamped_in a line).text))
-    ++ part a.text line.end line.next
 
 abbrev pub line_doubts : (a b : Seen) → Line → Option Line → List Bool
 line_doubts a b line None = doubts_between a.doubts line.start line.next
@@ -96,7 +95,6 @@ line_doubts a b line (Some other) =
     doubts_between a.doubts line.start line.stamp
     ++ map (still_doubted (stamped_in a line) (stamped_in b other))
     (range_with_len 0 (length (stamped_in a line).text))
-    ++ doubts_between a.doubts line.end line.next
 
 -- of some lines of a text
 unfoldable pub mended_lines : (a b : Seen) → List Line → List ℕ
