@@ -144,19 +144,22 @@ zone_of parts Console = None
 zone_of parts Pmsg = None
 zone_of parts Ftrace = None
 
--- whether the bytes without a doubt are vouched for. Of a packed dump it is not known which byte of its text a bad
--- block reaches
-abbrev pub vouches : List PartStates → Packing (List ℕ) → Name → Bool
-vouches parts Plain name = true
-vouches parts (Whole taken) name = is_sound (zone_of parts name)
-vouches parts (Part fault text) name = false
+-- of a packed dump it is not known which byte of its text a bad block reaches
+abbrev pub knows_doubts : List PartStates → Packing (List ℕ) → Name → Bool
+knows_doubts parts Plain name = true
+knows_doubts parts (Whole taken) name = is_sound (zone_of parts name)
+knows_doubts parts (Part fault text) name = false
+
+-- whether parity vouches for the bytes without a doubt; a record without parity has no notice
+abbrev pub vouches : List PartStates → RecordShown → Bool
+vouches parts r = nat_lt 0 r.notice && knows_doubts parts r.packing r.name
 
 -- how the one record is mended by the other, if fewer of its bytes are doubtful then
 abbrev pub mending : List PartStates → Option RecordShown → Option RecordShown → Option Mending
 mending parts None other = None
 mending parts (Some r) None = None
 mending parts (Some r) (Some other) =
-    if list_any is_doubt r.doubts && vouches parts other.packing other.name
+    if list_any is_doubt r.doubts && vouches parts other
     then if_fewer r.doubts (mending_by r other) else None
 
 abbrev pub with_mending : Option Mending → RecordShown → RecordShown
