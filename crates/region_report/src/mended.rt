@@ -6,6 +6,7 @@ ghost use Rattle.report_spec.specs.Packed.{RecordShown};
 ghost use Rattle.report_spec.specs.Newest.{newest};
 ghost use Rattle.report_spec.specs.Mending.{seen_in, mending_by as mending_by_record, is_doubt, if_fewer as mending_if_fewer};
 ghost use Rattle.report_spec.specs.Mending.{is_sound as is_zone_sound, zone_of as zone_of_name, vouches as does_vouch};
+ghost use Rattle.report_spec.specs.Mending.{knows_doubts as are_doubts_known};
 ghost use Rattle.report_spec.specs.Mending.{mending as mending_of_record, with_mending as mending_added};
 ghost use Rattle.report_spec.specs.Mending.{is_dump_of as is_dump_named, mended_in, records_mended as all_mended};
 ghost use Rattle.region_report.specs.Mendings.{as_seen, AreMendings};
@@ -103,15 +104,22 @@ fn zone_of(parts: &[ZoneParts], name: Name) -> Option<&ZoneParts>
     }
 }
 
-/// Whether the bytes of a record without a doubt are vouched for.
-fn vouches(parts: &[ZoneParts], entry: &RecordReport) -> bool
-    ensures { result ≡ does_vouch parts.now entry.now.packing entry.now.name }
+/// Whether it is known which bytes of a record stand in bad blocks.
+fn knows_doubts(parts: &[ZoneParts], packing: &Packing<Bytes>, name: Name) -> bool
+    ensures { result ≡ are_doubts_known parts.now packing.now name }
 {
-    match &entry.packing {
+    match packing {
         Packing::Plain => true,
-        Packing::Whole { .. } => is_sound(zone_of(parts, entry.name)),
+        Packing::Whole { .. } => is_sound(zone_of(parts, name)),
         Packing::Part { .. } => false,
     }
+}
+
+/// Whether parity vouches for the bytes of a record without a doubt.
+fn vouches(parts: &[ZoneParts], entry: &RecordReport) -> bool
+    ensures { result ≡ does_vouch parts.now entry.now }
+{
+    entry.notice > 0 && knows_doubts(parts, &entry.packing, entry.name)
 }
 
 /// How the one record is mended by the other, if fewer of its bytes are doubtful then.

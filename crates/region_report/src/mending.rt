@@ -76,8 +76,7 @@ fn add_text(
     };
     let (x, y) = (stamped(a, line), stamped(b, other));
     text.extend_from_slice(part(a.text, line.start, line.stamp))?;
-    push_mended(text, &x, &y, x.text.len())?;
-    text.extend_from_slice(part(a.text, line.end, line.next))
+    push_mended(text, &x, &y, x.text.len())
 }
 
 fn add_doubts(
@@ -95,8 +94,7 @@ fn add_doubts(
     };
     let (x, y) = (stamped(a, line), stamped(b, other));
     doubts.extend_from_slice(doubts_between(a.doubts, line.start, line.stamp))?;
-    push_still_doubted(doubts, &x, &y, x.text.len())?;
-    doubts.extend_from_slice(doubts_between(a.doubts, line.end, line.next))
+    push_still_doubted(doubts, &x, &y, x.text.len())
 }
 
 impl MendedText {

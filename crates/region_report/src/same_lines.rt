@@ -34,13 +34,13 @@ pub fn is_doubted(seen: &Seen<'_>, k: usize) -> bool
     seen.doubts.get(k).copied().unwrap_or(false)
 }
 
-/// A line from its stamp on.
+/// A line from its stamp on, with its newline.
 pub fn stamped<'a>(seen: &Seen<'a>, line: Line) -> Seen<'a>
     ensures { as_seen result ≡ stamped_in (as_seen seen.now) line }
 {
     Seen {
-        text: part(seen.text, line.stamp, line.end),
-        doubts: doubts_between(seen.doubts, line.stamp, line.end),
+        text: part(seen.text, line.stamp, line.next),
+        doubts: doubts_between(seen.doubts, line.stamp, line.next),
     }
 }
 
@@ -80,7 +80,7 @@ fn key_of(text: &[u8], line: Line) -> (u64, usize)
 {
     (
         stamp_number(part(text, line.stamp, line.caller)),
-        line.end.saturating_sub(line.stamp),
+        line.next.saturating_sub(line.stamp),
     )
 }
 
@@ -169,7 +169,7 @@ pub fn partner(a: &Seen<'_>, b: &Seen<'_>, places: &Places, line: Line) -> Optio
         ≡ find (is_keyed b.now.text.now q) (lines_from b.now.text.now 0) }
     ensures { result ≡ partner_in (as_seen a.now) (as_seen b.now) line }
 {
-    if has_stamp(line) && has_doubt(a.doubts, line.stamp, line.end) {
+    if has_stamp(line) && has_doubt(a.doubts, line.stamp, line.next) {
         partner_if(a, b, line, place(places, key_of(a.text, line)))
     } else {
         None

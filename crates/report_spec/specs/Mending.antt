@@ -25,11 +25,11 @@ pub record Seen : Type 0 where
 abbrev pub is_doubted : Seen → ℕ → Bool
 is_doubted s k = unwrap_or (slice_get s.doubts k) false
 
--- a line from its stamp on: a dump has a level in front of it, and a console has none
+-- a line from its stamp on, with its newline: a dump has a level in front of it, and a console has none
 abbrev pub stamped_in : Seen → Line → Seen
 stamped_in s line = record {
-  text = part s.text line.stamp line.end;
-  doubts = doubts_between s.doubts line.stamp line.end;
+  text = part s.text line.stamp line.next;
+  doubts = doubts_between s.doubts line.stamp line.next;
 }
 
 -- ---- the same line
@@ -47,7 +47,7 @@ digits_from n (b ∷ bs) = digits_from (number_and n b) bs
 
 -- lines are looked for by the number of the stamp, and by how long they are from it on
 abbrev pub key_of : List ℕ → Line → ℕ × ℕ
-key_of text line = (digits_from 0 (part text line.stamp line.caller), line.end - line.stamp)
+key_of text line = (digits_from 0 (part text line.stamp line.caller), line.next - line.stamp)
 
 abbrev pub is_keyed : List ℕ → ℕ × ℕ → Line → Bool
 is_keyed text key line =
@@ -68,7 +68,7 @@ partner_if a b line (Some other) = if can_be (stamped_in a line) (stamped_in b o
 -- the line of another text that a line with doubtful bytes is: the first of its stamp and length, if it can be that line
 abbrev pub partner : (a b : Seen) → Line → Option Line
 partner a b line =
-    if has_stamp line && has_doubt a.doubts line.stamp line.end
+    if has_stamp line && has_doubt a.doubts line.stamp line.next
     then partner_if a b line (find (is_keyed b.text (key_of a.text line)) (lines_from b.text 0)) else None
 
 -- ---- a text, mended
@@ -88,7 +88,6 @@ mended_line a b line (Some other) =
     part a.text line.start line.stamp
     ++ map (mended_byte (stamped_in a line) (stamped_in b other))
     (range_with_len 0 (length (stamped_in a line).text))
-    ++ part a.text line.end line.next
 
 abbrev pub line_doubts : (a b : Seen) → Line → Option Line → List Bool
 line_doubts a b line None = doubts_between a.doubts line.start line.next
@@ -96,7 +95,6 @@ line_doubts a b line (Some other) =
     doubts_between a.doubts line.start line.stamp
     ++ map (still_doubted (stamped_in a line) (stamped_in b other))
     (range_with_len 0 (length (stamped_in a line).text))
-    ++ doubts_between a.doubts line.end line.next
 
 -- of some lines of a text
 unfoldable pub mended_lines : (a b : Seen) → List Line → List ℕ
@@ -146,19 +144,22 @@ zone_of parts Console = None
 zone_of parts Pmsg = None
 zone_of parts Ftrace = None
 
--- whether the bytes without a doubt are vouched for. Of a packed dump it is not known which byte of its text a bad
--- block reaches
-abbrev pub vouches : List PartStates → Packing (List ℕ) → Name → Bool
-vouches parts Plain name = true
-vouches parts (Whole taken) name = is_sound (zone_of parts name)
-vouches parts (Part fault text) name = false
+-- of a packed dump it is not known which byte of its text a bad block reaches
+abbrev pub knows_doubts : List PartStates → Packing (List ℕ) → Name → Bool
+knows_doubts parts Plain name = true
+knows_doubts parts (Whole taken) name = is_sound (zone_of parts name)
+knows_doubts parts (Part fault text) name = false
+
+-- whether parity vouches for the bytes without a doubt; a record without parity has no notice
+abbrev pub vouches : List PartStates → RecordShown → Bool
+vouches parts r = nat_lt 0 r.notice && knows_doubts parts r.packing r.name
 
 -- how the one record is mended by the other, if fewer of its bytes are doubtful then
 abbrev pub mending : List PartStates → Option RecordShown → Option RecordShown → Option Mending
 mending parts None other = None
 mending parts (Some r) None = None
 mending parts (Some r) (Some other) =
-    if list_any is_doubt r.doubts && vouches parts other.packing other.name
+    if list_any is_doubt r.doubts && vouches parts other
     then if_fewer r.doubts (mending_by r other) else None
 
 abbrev pub with_mending : Option Mending → RecordShown → RecordShown
