@@ -141,7 +141,13 @@ fn a_dump_is_mended(rt: HostRuntime) -> Result<(), Fail> {
 fn a_console_is_mended(rt: HostRuntime) -> Result<(), Fail> {
     let report = report_with(rt.alloc(), DUMP, BAD_CONSOLE)?;
     let console = console_in(&rt, &report);
-    assert!(rt; mended_by(console) == Some(Name::Dump { index: 0, packed: false }));
+    assert!(rt;
+        mended_by(console)
+            == Some(Name::Dump {
+                index: 0,
+                packed: false
+            })
+    );
     assert!(rt; console.said() == CONSOLE);
     assert!(rt; console.content.as_slice().starts_with(BAD_CONSOLE));
     assert!(rt; console.doubts.len() == 209 && doubtful(console) == 0);
@@ -190,7 +196,8 @@ fn a_text_says_so(rt: HostRuntime) -> Result<(), Fail> {
 fn a_page_says_so(rt: HostRuntime) -> Result<(), Fail> {
     let report = report_with(rt.alloc(), BAD_DUMP, CONSOLE)?;
     let page = page_of(rt.alloc(), b"a", &BOTH, &report)?;
-    let told = "<th scope=\"row\">Told by</th><td><a href=\"#dmesg-ramoops-0\">dmesg-ramoops-0</a>, with bytes of \
+    let told =
+        "<th scope=\"row\">Told by</th><td><a href=\"#dmesg-ramoops-0\">dmesg-ramoops-0</a>, with bytes of \
 <a href=\"#console-ramoops-0\">console-ramoops-0</a> where its own are bad\nthe console has the same line";
     assert!(rt; has(page.as_slice(), told)?);
     Ok(())

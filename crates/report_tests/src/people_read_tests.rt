@@ -132,6 +132,7 @@ const UNNAMED: &str =
 /// The lines of the trace of `MOVED` by a map and a console.
 fn moved(alloc: Global, map: &[u8], console: &[u8]) -> Result<Report, Fail> {
     let params = Params {
+        mem: 8192,
         console: 4096,
         ..params(0, 4096)
     };

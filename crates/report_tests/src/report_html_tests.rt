@@ -246,6 +246,7 @@ fn why_it_died_by_the_console(rt: HostRuntime) -> Result<(), Fail> {
 <tr><th scope=\"row\">CPU</th><td>not recorded</td></tr>
 <tr><th scope=\"row\">Function</th><td>not recorded</td></tr>
 <tr><th scope=\"row\">Signature</th><td>kernel panic: sysrq triggered crash</td></tr>
+<tr><th scope=\"row\">Kernel offset</th><td>disabled</td></tr>
 <tr><th scope=\"row\">Told by</th><td><a href=\"#console-ramoops-0\">console-ramoops-0</a></td></tr>\n";
     assert!(rt; shows(rt, [NONE, NONE, NONE, CONSOLE], died)?);
     let lines = "<pre class=\"log\" id=\"console-ramoops-0\">
@@ -359,7 +360,7 @@ fn dumps_by_telling_line(rt: HostRuntime) -> Result<(), Fail> {
 <tr><td class=\"n\">1 &times;</td><td class=\"wrap\">no telling line</td>\
 <td><a href=\"#dmesg-ramoops-1\">dmesg-ramoops-1</a></td><td>2026-11-26 23:44:15.000000 UTC</td></tr>
 </table></div>
-<details>\n<summary><span class=\"say\">";
+<details open>\n<summary><span class=\"say\">";
     assert!(rt; shows(rt, [NAMED, SILENT, NAMED, NONE], table)?);
     assert!(rt; !shows(rt, [NAMED, NONE, NONE, CONSOLE], "Dumps by telling line")?);
     Ok(())
