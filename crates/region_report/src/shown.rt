@@ -89,8 +89,8 @@ impl RecordReport {
     }
 
     fn text_said(&self) -> &[u8]
-        ensures { result.now
-            ≡ mended_said_or self.now.mended self.now.notice (said_of self.now.packing self.now.notice self.now.content) }
+        ensures { result.now ≡ mended_said_or self.now.mended self.now.notice
+            (said_of self.now.packing self.now.notice self.now.content) }
     {
         match &self.mended {
             Some(mended) => {

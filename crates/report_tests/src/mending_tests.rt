@@ -73,11 +73,16 @@ fn push_header(bytes: &mut Vec<u8>, len: u8) -> Result<(), Fail> {
     Ok(())
 }
 
-// The end of a zone that begins at a place: the parity of its 15 blocks from 1792 on, and of its header from 2032 on.
-fn push_parity(bytes: &mut Vec<u8>, at: usize, parity: &[u8; 48]) -> Result<(), Fail> {
-    bytes.resize(at + 1792, 0)?;
+// The end of a zone, with the parity of its 15 blocks from one place on, and of its header from another.
+fn push_parity(
+    bytes: &mut Vec<u8>,
+    blocks: usize,
+    header: usize,
+    parity: &[u8; 48],
+) -> Result<(), Fail> {
+    bytes.resize(blocks, 0)?;
     bytes.extend_from_slice(&parity[..32])?;
-    bytes.resize(at + 2032, 0)?;
+    bytes.resize(header, 0)?;
     bytes.extend_from_slice(&parity[32..])?;
     Ok(())
 }
@@ -88,10 +93,10 @@ fn image_of(alloc: Global, dump: &[u8], console: &[u8]) -> Result<Vec<u8>, Fail>
     push_header(&mut bytes, 221)?;
     bytes.extend_from_slice(TIME)?;
     bytes.extend_from_slice(dump)?;
-    push_parity(&mut bytes, 0, &DUMP_PARITY)?;
+    push_parity(&mut bytes, 1792, 2032, &DUMP_PARITY)?;
     push_header(&mut bytes, 209)?;
     bytes.extend_from_slice(console)?;
-    push_parity(&mut bytes, 2048, &CONSOLE_PARITY)?;
+    push_parity(&mut bytes, 3840, 4080, &CONSOLE_PARITY)?;
     Ok(bytes)
 }
 

@@ -5,7 +5,8 @@ ghost use Rattle.region_report.specs.Machines.{as_machine};
 ghost use Rattle.report_text.specs.Pieces.{parts};
 ghost use Rattle.report_text.specs.Facts.{fact_parts, next_words, function_parts, when_parts, up_parts};
 ghost use Rattle.report_text.specs.Facts.{named_parts, bytes_fact, machine_parts};
-ghost use Rattle.report_text.specs.Facts.{packing_words, mended_parts, name_parts, teller_parts, image_parts, source_parts};
+ghost use Rattle.report_text.specs.Facts.{packing_words, mended_parts, name_parts, teller_parts, image_parts};
+ghost use Rattle.report_text.specs.Facts.{source_parts};
 
 use crate::pieces::{Piece, add};
 use death::part;

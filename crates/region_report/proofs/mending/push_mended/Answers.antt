@@ -17,7 +17,8 @@ loop-k-preserved c =
           ∙ ap (λ (bs : List ℕ). bs ++ c.mended_byte.result ∷ []) c.loop-k.invariant.so_far
           ∙ append_assoc before so_far (c.mended_byte.result ∷ [])
           ∙ ap (λ (b : ℕ). before ++ (so_far ++ b ∷ [])) c.mended_byte.ensures
-          ∙ ap (λ (bs : List ℕ). before ++ bs) (sym (map-range_with_len_more f 0 k k (let e : 0 + k ≡ k = omega arith in e)));
+          ∙ ap (λ (bs : List ℕ). before ++ bs)
+          (sym (map-range_with_len_more f 0 k k (let e : 0 + k ≡ k = omega arith in e)));
       within = (let inside = c.loop-k-test.true in omega (arith, inside));
     }
 

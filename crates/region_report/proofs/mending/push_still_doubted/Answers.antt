@@ -17,7 +17,8 @@ loop-k-preserved c =
           ∙ ap (λ (bs : List Bool). bs ++ c.still_doubted.result ∷ []) c.loop-k.invariant.so_far
           ∙ append_assoc before so_far (c.still_doubted.result ∷ [])
           ∙ ap (λ (b : Bool). before ++ (so_far ++ b ∷ [])) c.still_doubted.ensures
-          ∙ ap (λ (bs : List Bool). before ++ bs) (sym (map-range_with_len_more f 0 k k (let e : 0 + k ≡ k = omega arith in e)));
+          ∙ ap (λ (bs : List Bool). before ++ bs)
+          (sym (map-range_with_len_more f 0 k k (let e : 0 + k ≡ k = omega arith in e)));
       within = (let inside = c.loop-k-test.true in omega (arith, inside));
     }
 

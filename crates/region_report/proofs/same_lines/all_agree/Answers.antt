@@ -10,14 +10,16 @@ pub returns-then-not-agree : goal.returns-then-not-agree
 returns-then-not-agree c =
     let f : ℕ → Bool = agree (as_seen c.args.x.now) (as_seen c.args.y.now) in
     let k = c.loop-k.k in
-    sym (ap (λ (b : Bool). b && list_all f (range_with_len (k + 1) (c.args.len - (k + 1)))) (sym c.agree.ensures ∙ c.if-not-agree.true))
+    sym (ap (λ (b : Bool). b && list_all f (range_with_len (k + 1) (c.args.len - (k + 1))))
+    (sym c.agree.ensures ∙ c.if-not-agree.true))
     ∙ sym (all-first f k c.args.len c.loop-k-test.true) ∙ c.loop-k.invariant
 
 pub loop-k-preserved : goal.loop-k-preserved
 loop-k-preserved c =
     let f : ℕ → Bool = agree (as_seen c.args.x.now) (as_seen c.args.y.now) in
     let k = c.loop-k.k in
-    sym (ap (λ (b : Bool). b && list_all f (range_with_len (k + 1) (c.args.len - (k + 1)))) (sym c.agree.ensures ∙ c.if-not-agree.false))
+    sym (ap (λ (b : Bool). b && list_all f (range_with_len (k + 1) (c.args.len - (k + 1))))
+    (sym c.agree.ensures ∙ c.if-not-agree.false))
     ∙ sym (all-first f k c.args.len c.loop-k-test.true) ∙ c.loop-k.invariant
 
 pub returns : goal.returns

@@ -9,7 +9,8 @@ use Rattle.region_report.specs.Mendings.{is_same_key}
 use Rattle.region_report.proofs.same_lines.places_of.Given as goal
 
 abbrev pub invariant-lines : goal.invariant-lines
-invariant-lines l = (q : ℕ × ℕ) → option_or (get is_same_key l.places q) (find (is_keyed l.text q) (lines_from l.text l.at))
+invariant-lines l = (q : ℕ × ℕ)
+    → option_or (get is_same_key l.places q) (find (is_keyed l.text q) (lines_from l.text l.at))
     ≡ find (is_keyed l.text q) (lines_from l.text 0)
 
 abbrev pub decreases-lines : goal.decreases-lines
