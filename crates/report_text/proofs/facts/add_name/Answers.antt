@@ -3,8 +3,8 @@ use Rattle.std.proofs.Common.{◌∙◌, ◌++◌, ◌∷◌, [], ℕ, List, ap,
 use Rattle.std.proofs.lemmas.Result.{on_ok_weaker}
 use Rattle.report_spec.specs.Packed.{RecordShown}
 use Rattle.report_text.specs.Pieces.{Part, Words, Named, parts}
-use Rattle.report_text.specs.Facts.{teller_parts}
-use Rattle.report_text.proofs.facts.add_teller.Goals as goal
+use Rattle.report_text.specs.Facts.{name_parts}
+use Rattle.report_text.proofs.facts.add_name.Goals as goal
 
 pub returns : goal.returns
 returns c =
@@ -13,4 +13,4 @@ returns c =
     (λ e. e
     ∙ ap (λ (ws : List ℕ). old ++ Words (codes "  told by    ") ∷ Named c.entry.inside.name ∷ Words ws ∷ [])
     c.packing_text.ensures
-    ∙ ap (λ (q : RecordShown). old ++ teller_parts q) c.entry.view_is) c.add.ensures
+    ∙ ap (λ (q : RecordShown). old ++ name_parts q) c.entry.view_is) c.add.ensures
