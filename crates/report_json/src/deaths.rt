@@ -1,17 +1,19 @@
 // The value of why the machine died.
 ghost use Rattle.std.specs.Prelude.{◌≡◌, map, IfOk};
+ghost use Rattle.std.specs.Option.{option_copied};
 ghost use Rattle.serde_json.specs.View.{view};
 ghost use Rattle.report_spec.specs.Origins.{name_in};
 ghost use Rattle.serde_json.specs.Data.{string};
 ghost use Rattle.region_report.specs.Tellers.{as_told, told_in};
 ghost use Rattle.report_json.specs.Schema.{front_data, span_data, named_data, said_data, second_data, trace_data};
-ghost use Rattle.report_json.specs.Schema.{bytes_data, death_with, told_data, death_data};
+ghost use Rattle.report_json.specs.Schema.{bytes_data, mended_data, death_with, told_data, death_data};
 
 use crate::records::utf8_front;
 use arrayvec::ArrayString;
 use death::{part, trace};
 use death_spec::{Death, Line, Span};
-use region_report::{Origin, RecordReport, Telling, file_name, uptime};
+use outside::Bytes;
+use region_report::{Mended, Origin, RecordReport, Telling, file_name, uptime};
 use serde_json::{Value, json};
 use std::alloc::{AllocError, Global};
 use zone_spec::Name;
@@ -91,15 +93,30 @@ pub fn name_value(alloc: Global, origin: Origin, name: Name) -> Result<Value, Al
     Value::try_from_str(alloc, text.as_str())
 }
 
+/// The name of the record that a record is mended by.
+fn mended_value(
+    alloc: Global,
+    origin: Origin,
+    mended: Option<&Mended<Bytes>>,
+) -> Result<Value, AllocError>
+    ensures { IfOk result (λ v. view v ≡ mended_data origin (option_copied mended.entry)) }
+{
+    match mended {
+        Some(mended) => name_value(alloc, origin, mended.by),
+        None => Ok(Value::Null),
+    }
+}
+
 fn death_with(
     alloc: Global,
     origin: Origin,
     text: &[u8],
     name: Name,
+    mended_by: Value,
     death: Death,
     trace: Value,
 ) -> Result<Value, AllocError>
-    ensures { IfOk result (λ v. view v ≡ death_with origin text.now name death (view trace)) }
+    ensures { IfOk result (λ v. view v ≡ death_with origin text.now name (view mended_by) death (view trace)) }
 {
     let record_name = name_value(alloc, origin, name)?;
     let cpu = named_value(alloc, text, death.cpu)?;
@@ -115,6 +132,7 @@ fn death_with(
         "task": task,
         "second": second,
         "record": record_name,
+        "mended_by": mended_by,
         "line": line,
         "kernel": kernel,
         "is_next": death.is_next,
@@ -129,7 +147,16 @@ fn told_value(alloc: Global, origin: Origin, told: &Telling<'_>) -> Result<Value
     let teller: &RecordReport = told.teller;
     let text = teller.readable();
     let trace = trace_value(alloc, text)?;
-    death_with(alloc, origin, text, teller.name, told.death, trace)
+    let mended_by = mended_value(alloc, origin, teller.mended.as_ref())?;
+    death_with(
+        alloc,
+        origin,
+        text,
+        teller.name,
+        mended_by,
+        told.death,
+        trace,
+    )
 }
 
 /// Why the machine died, as one of the records tells it, or null. Text that is no UTF-8 is cut before the first byte

@@ -1,5 +1,5 @@
 // A dump and a console that hold the same lines, each damaged elsewhere.
-use crate::whole_reports::{self, BARE, has, page_of, text_on};
+use crate::whole_reports::{self, BARE, has, line_of, page_of, text_on};
 use ramoops_layout::Params;
 use region_report::{RecordReport, Report, console, newest_dump};
 use std::alloc::Global;
@@ -205,5 +205,16 @@ fn a_page_says_so(rt: HostRuntime) -> Result<(), Fail> {
         "<th scope=\"row\">Told by</th><td><a href=\"#dmesg-ramoops-0\">dmesg-ramoops-0</a>, with bytes of \
 <a href=\"#console-ramoops-0\">console-ramoops-0</a> where its own are bad\nthe console has the same line";
     assert!(rt; has(page.as_slice(), told)?);
+    Ok(())
+}
+
+#[test]
+fn a_line_says_so(rt: HostRuntime) -> Result<(), Fail> {
+    let report = report_with(rt.alloc(), BAD_DUMP, CONSOLE)?;
+    let line = line_of(rt.alloc(), "a", &BOTH, &report)?;
+    let told =
+        "\"line\":\"Kernel panic - not syncing: sysrq triggered crash\",\"mended_by\":\"console-ramoops-0\",\
+\"record\":\"dmesg-ramoops-0\",";
+    assert!(rt; line.as_str().contains(told), "{told}");
     Ok(())
 }
