@@ -472,11 +472,16 @@ fn candidate(t: usize, syndromes: &[u8], places: usize, fixes: &mut ArrayVec<Fix
     ensures inside { AllInside places fixes.new.items }
     ensures found { (D : List ℕ) → IsDamage t places syndromes.now D
         → (result ≡ true) × (fixes.new.items ≡ fixes_from places D) }
+    ensures sums { result ≡ true → (k : ℕ) → k < t + t
+        → fix_sum places fixes.new.items (gf_pow 2 k) ≡ slice_index syndromes.now k }
 {
     fixes.clear();
     let solution = solve(t, syndromes);
     let constant = last(solution.locator.as_slice());
     if constant == 0 {
+        return false;
+    }
+    if solution.evaluator.len() >= solution.locator.len() {
         return false;
     }
     let mut powers: ArrayVec<u8, 63> = ArrayVec::new();
