@@ -7,7 +7,7 @@ use Rattle.std.proofs.Common.{[], ◌∷◌, length, get_or, take, reverse, ◌�
 use Rattle.code_spec.specs.Field.{gf_add, gf_mul, gf_pow}
 use Rattle.code_spec.specs.Code.{value_of}
 use Rattle.code_laws.specs.Locators.{Spot, power_sum, NotAmong, AreSpots}
-use Rattle.code_laws.proofs.Ring.{ring, add_self, zero_add, mul_comm, mul_one, one_mul, zero_mul, mul_zero, pow_below}
+use Rattle.code_laws.proofs.Ring.{ring, add_self, zero_add, mul_one, one_mul, zero_mul, mul_zero, pow_below}
 use Rattle.code_laws.proofs.Ring.{pow_suc, pow_zero, pow_distinct, equal_from_add, add_below, mul_below}
 use Rattle.code_laws.proofs.Powers.{pow_inverse}
 use Rattle.code_laws.proofs.Words.{pow_turn}

@@ -1,6 +1,6 @@
 -- The first values with the fixes are zero, and the others are tested: all are zero exactly when the fixed word is a
 -- codeword. For `is_mended`.
-use Rattle.std.proofs.Common.{◌≡◌, ℕ, ◌≤◌, ◌<◌, ◌+◌, List, [], ◌++◌, length, drop, get_or, length-append, length-drop}
+use Rattle.std.proofs.Common.{◌≡◌, ℕ, ◌<◌, ◌+◌, List, [], ◌++◌, length, drop, get_or, length-append, length-drop}
 use Rattle.std.proofs.Common.{get_or-drop, take, take_all, ◌-◌, arith, refl, sym, ap, ap₂, ◌∙◌}
 use Rattle.code_spec.specs.Field.{gf_add, gf_pow}
 use Rattle.code_spec.specs.Code.{value_of}
