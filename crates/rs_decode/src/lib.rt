@@ -328,7 +328,7 @@ fn few_roots(locator: &[u8], places: usize, powers: &mut ArrayVec<u8, 63>)
     let mut buffer = [0u8; 16];
     let terms = &mut buffer[..locator.len()];
     scale(locator, 256 - places, terms);
-    let mut found = [0u8; 256];
+    let mut found = [0u8; 32];
     let mut count = 0usize;
     for block in 0..places / 16 {
         if count >= degree {
