@@ -328,7 +328,7 @@ fn few_roots(locator: &[u8], places: usize, powers: &mut ArrayVec<u8, 63>)
     let mut buffer = [0u8; 16];
     let terms = &mut buffer[..locator.len()];
     scale(locator, 256 - places, terms);
-    let mut found = [0u8; 256];
+    let mut found = [0u8; 32];
     let mut count = 0usize;
     for block in 0..places / 16 {
         if count >= degree {
@@ -380,13 +380,13 @@ fn log_gap(other: u8, power: u8) -> u8
     log(add(1, pow_ratio(other, power)))
 }
 
-/// The product of 1 + Y / X over the other locators Y.
+/// The logarithm of the product of 1 + Y / X over the other locators Y.
 fn ratio(powers: &[u8], power: u8) -> u8
     requires few { length powers.now ≤ 63 }
     requires own { power < 255 }
     requires below { Below255 powers.now }
-    ensures value { result ≡ gap_ratio powers.now power }
-    ensures some { result ≢ 0 }
+    ensures below { result < 255 }
+    ensures value { gf_pow 2 result ≡ gap_ratio powers.now power }
 {
     let mut sum = 0usize;
     for i in powers {
@@ -394,7 +394,7 @@ fn ratio(powers: &[u8], power: u8) -> u8
             sum += log_gap(*i, power) as usize;
         }
     }
-    antilog(sum)
+    (sum % 255) as u8
 }
 
 /// Forney's mask at a place where the evaluator has this value.
@@ -411,7 +411,7 @@ fn fix_of(value: u8, scale: u8, powers: &[u8], power: u8, places: usize) -> Fix
     let under = ratio(powers, power);
     Fix {
         place: (places - 1 - power as usize) as u8,
-        mask: mul(over, inv(under)),
+        mask: mul_pow(over, 255 - under),
     }
 }
 
