@@ -496,17 +496,27 @@ fn factors_of(s: &[u8; 16], count: usize) -> [u8; 4]
     }
 }
 
-/// Whether the sums may be of two errors, by marks of a block's pairs.
-fn may_be_two(marks: &[bool], sums: &[u8; 16]) -> bool
+/// The byte of a lane that is worth 256 to the `place`.
+fn byte_of(lane: u128, place: u32) -> u8
+    requires { place ≤ 15 }
+    ensures { result ≡ digit lane place }
+{
+    ((lane >> (8 * place)) % 256) as u8
+}
+
+/// Whether the sums of this lane may be of two errors, by marks of a block's pairs.
+fn may_be_two(marks: &[bool], lane: u128) -> bool
     requires { length marks.now ≡ 65536 }
     ensures { result ≡ false → (low end x y : ℕ) → AreMarks low end marks.now → low ≤ x → x < y → y < end
-        → pair_sum x y (slice_index sums.now) ≢ 0 }
+        → pair_sum x y (λ i. digit lane (15 - i)) ≢ 0 }
 {
-    if sums[0] == 0 {
+    let first = byte_of(lane, 15);
+    if first == 0 {
         return true;
     }
-    let scale = inv(sums[0]);
-    marks[mark_place(mul(scale, sums[1]), mul(scale, sums[2]))]
+    let scale = inv(first);
+    let second = mul(scale, byte_of(lane, 14));
+    marks[mark_place(second, mul(scale, byte_of(lane, 13)))]
 }
 
 /// In how many places of the block at least each codeword with the known bytes differs from the word. It may tell of
@@ -526,15 +536,15 @@ fn told(block: &Block, word: &[u8], base: &[u8]) -> usize
         → result + distance (drop block.now.to word.now) (drop block.now.to c)
         ≤ distance (drop block.now.from word.now) (drop block.now.from c) }
 {
-    let sums = sums_of(
+    let lane = sums_of(
         block.rows.as_slice(),
         &word[block.from..block.to],
         &base[block.from..block.to],
     );
-    let sums = sums.to_be_bytes();
-    if block.least == 2 && !may_be_two(block.marks.as_slice(), &sums) {
+    if block.least == 2 && !may_be_two(block.marks.as_slice(), lane) {
         return 3;
     }
+    let sums = lane.to_be_bytes();
     let factors = factors_of(&sums, block.least);
     if are_factors(&factors[..block.least], &sums) {
         block.least
@@ -554,7 +564,7 @@ fn wanted(known: &[Option<u8>; 12], parity: usize) -> usize {
 fn most_told(known: &[Option<u8>; 12], parity: usize) -> usize
     ensures { result ≤ 4 }
 {
-    if spare(known) == 3 || parity < 34 {
+    if spare(known) == 3 || parity < 32 {
         2
     } else {
         4
