@@ -1,5 +1,5 @@
 -- The stores so far are the next of the same call, in one span, and the flight stands for its bytes. For
--- the loop of `Progress::advance`.
+-- the loop of `Progress::make_stores`.
 use Rattle.std.proofs.Common.{◌≡◌, ℕ, ◌+◌, ◌-◌, ◌<◌, ◌≤◌, List, length, take, drop}
 use Rattle.prz_region.specs.CutRegion.{span, stored}
 use Rattle.rs_encode.specs.Lanes.{IsLent}
@@ -8,7 +8,7 @@ use Rattle.store_steps.specs.Machine.{StandsFor}
 use Rattle.zone_spec.specs.Calls.{call_stores}
 use Rattle.prz_write.specs.Made.{HasStored}
 use Rattle.prz_write.specs.Seen.{seen, IsHeld}
-use Rattle.prz_write.proofs.progress.Progress.advance.Given as goal
+use Rattle.prz_write.proofs.progress.Progress.make_stores.Given as goal
 
 abbrev pub invariant-stores : goal.invariant-stores
 invariant-stores l = record {

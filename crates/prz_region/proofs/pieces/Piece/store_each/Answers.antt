@@ -1,5 +1,5 @@
 -- Each byte that is stored lies in the piece, and after the last all are put in. For
--- `Piece::store_bytes`.
+-- `Piece::store_each`.
 use Rattle.std.proofs.Common.{ℕ, ◌+◌, List, [], ◌∷◌, ◌++◌, append_assoc, append-nil, drop, length, get_or, lit<, sym}
 use Rattle.std.proofs.Common.{ap, ◌∙◌, arith}
 use Rattle.core.specs.Mem.Slots.{slots_counts}
@@ -8,8 +8,8 @@ use Rattle.prz_region.specs.Made.{Write, in_span}
 use Rattle.prz_region.specs.Chain.{piece_bytes}
 use Rattle.prz_region.proofs.Cuts.{put-length}
 use Rattle.prz_region.proofs.Stores.{AreBytes-one, put-next, put-end, stores-next, stores-end}
-use Rattle.prz_region.proofs.pieces.Piece.store_bytes.Goals as goal
-use Rattle.prz_region.proofs.pieces.Piece.store_bytes.Goals.{After-store}
+use Rattle.prz_region.proofs.pieces.Piece.store_each.Goals as goal
+use Rattle.prz_region.proofs.pieces.Piece.store_each.Goals.{After-store}
 
 pub store-requires : goal.store-requires
 store-requires c =

@@ -1,10 +1,10 @@
 -- The bytes so far are put in, the piece has its place and length, and a store is listed for
--- each. For the loop of `store_bytes`.
+-- each. For the loop of `store_each`.
 use Rattle.std.proofs.Common.{◌≡◌, ◌+◌, ◌++◌, drop, length}
 use Rattle.zone_spec.specs.Stores.{put, byte_stores}
 use Rattle.prz_region.specs.Made.{in_span}
 use Rattle.prz_region.specs.Chain.{piece_bytes, SamePlace}
-use Rattle.prz_region.proofs.pieces.Piece.store_bytes.Given as goal
+use Rattle.prz_region.proofs.pieces.Piece.store_each.Given as goal
 
 abbrev pub invariant-loop-byte : goal.invariant-loop-byte
 invariant-loop-byte l = record {
