@@ -9,6 +9,7 @@ ghost use Rattle.script.specs.declared.reading.ParseFault.TheVariants.{Memory};
 
 use crate::rows::{self, LineFault};
 use crate::{Line, Lines};
+use memchr::memchr;
 use std::alloc::{AllocError, AllocFailed, Global};
 use std::marker::Model;
 use thiserror::Error;
@@ -142,13 +143,17 @@ impl Reading {
         }
     }
 
-    // Reads the lines that end in the next piece, where no line was bad before.
+    // Reads the lines that end in the next piece, where no line was bad before. What ends no line is not read again with
+    // each piece, so that a long line takes linear time.
     fn read_on(&mut self, piece: &[u8]) -> Result<(), AllocError>
         requires { self.old.bad ≡ None }
         ensures { (given : List ℕ) → HasRead given self.old.lines self.old.rest
             → OnOk result (HasTaken self.new (given ++ piece.now)) }
     {
         self.rest.extend_from_slice(piece)?;
+        if memchr(b'\n', piece).is_none() {
+            return Ok(());
+        }
         match read_front(self.alloc, &mut self.lines, &self.rest) {
             Ok(rest) => {
                 let rest = Vec::from_slice(self.alloc, rest)?;
