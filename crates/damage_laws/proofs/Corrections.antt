@@ -452,7 +452,7 @@ corrections_keep_reading z now k valid im h =
     let y : List ℕ = after_stores now (take k (boot_fixes z now)) in
     let is : after_boot_stores z now k ≡ y = ap (after_stores now) (take-append-le k (boot_fixes z now) rest h) in
     let words : words_read z y ≡ words_read z now = ap (words_in z.byte_order)
-        (fixed_mended z valid now im k Header).reading in
+    (fixed_mended z valid now im k Header).reading in
     let r : ZoneReading = zone_reading z now in
     let reads : zone_reading z y ≡ reading_in z y r.words r.state =
     reading_is z y ∙ ap (λ w. reading_in z y w (state_of z w)) (words ∙ sym (reading_words z now))

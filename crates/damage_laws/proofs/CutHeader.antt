@@ -334,7 +334,7 @@ header_codeword-says order r w a b c =
     let c4 : List ℕ = word_bytes order w.size in
     let all : AllByRecursion (λ b. b < 256) bytes = AllByRecursion-append (λ b. b < 256) (a4 ++ b4) c4
     (AllByRecursion-append (λ b. b < 256) a4 b4 (bytes-all a4 (word-bytes order w.sig))
-        (bytes-all b4 (word-bytes order w.start)))
+    (bytes-all b4 (word-bytes order w.start)))
     (bytes-all c4 (word-bytes order w.size)) in
     let made : IsWord r (parity_of r bytes) × IsCodeword r (bytes ++ parity_of r bytes) =
     parity_made r bytes (refl, all) in
@@ -371,7 +371,7 @@ windows_ok z ((g ∷ gs) ∷ parts) header h small =
     let closing : SaysWords z.byte_order z.parity w (header_codeword z.byte_order z.parity w) =
     header_codeword-says z.byte_order z.parity w bounds.0 bounds.1 bounds.2 in
     let own : nearest z.parity (header_codeword z.byte_order z.parity w)
-        ≡ Some (header_codeword z.byte_order z.parity w) =
+    ≡ Some (header_codeword z.byte_order z.parity w) =
     nearest-codeword z.parity (header_codeword z.byte_order z.parity w) closing.codeword in (
       record {
         opening = λ c e.
@@ -388,7 +388,7 @@ windows_ok z ((g ∷ gs) ∷ parts) header h small =
         word = closing.word;
         stands = λ c e. (let same : header_codeword z.byte_order z.parity w
             ≡ c = (let k : Some (header_codeword z.byte_order z.parity w) ≡ Some c = sym own ∙ e in cc)
-                in ap (words_in z.byte_order) (sym same));
+            in ap (words_in z.byte_order) (sym same));
         sig = subst (λ v. v.sig < 2 ^ 32) (sym closing.words) bounds.0;
         start = subst (λ v. v.start < 2 ^ 32) (sym closing.words) bounds.1;
         size = subst (λ v. v.size < 2 ^ 32) (sym closing.words) bounds.2;

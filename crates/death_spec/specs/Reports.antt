@@ -24,7 +24,7 @@ use Rattle.death_spec.specs.Traces.{name_at, unplaced, name_in, is_entry, entrie
 abbrev pub report : List ℕ → Line → List Line
 report text telling =
     take_while (λ line. not (ends_report (is_of_oops (kind text telling)) (kind text line)))
-        (lines_from text telling.next)
+    (lines_from text telling.next)
 
 unfoldable pub first_where : (Line → Bool) → List Line → Option Line
 first_where counts [] = None

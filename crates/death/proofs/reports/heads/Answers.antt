@@ -34,7 +34,7 @@ lines-preserved c = (
   head_more c.args.text.now (is_a c.args.text.now Processor) c.is_of_oops-is_open.result c.lines.at c.in-Some.line
       c.lines.processor _
       c.earlier-processor.result c.kind_by-mark.result c.is_mark-is_processor.result c.lines.invariant.0
-          c.in-Some.ensures.line
+      c.in-Some.ensures.line
       c.kind_by-mark.ensures (sym c.ends_report.ensures ∙ c.if-ends_report.false)
       (c.is_mark-is_processor.ensures ∙ ap (is_mark Processor) c.kind_by-mark.ensures) c.earlier-processor.ensures,
   head_more c.args.text.now (is_a c.args.text.now Place) c.is_of_oops-is_open.result c.lines.at c.in-Some.line
@@ -62,64 +62,64 @@ lines-preserved c = (
 pub returns-then-ends_report-clause-processor : goal.returns-then-ends_report-clause-processor
 returns-then-ends_report-clause-processor c =
     head_ended c.args.text.now (is_a c.args.text.now Processor) c.is_of_oops-is_open.result c.lines.at c.in-Some.line
-        c.lines.processor _
+    c.lines.processor _
     c.kind_by-mark.result c.lines.invariant.0 c.in-Some.ensures.line c.kind_by-mark.ensures
     (sym c.ends_report.ensures ∙ c.if-ends_report.true)
 
 pub returns-then-ends_report-clause-place : goal.returns-then-ends_report-clause-place
 returns-then-ends_report-clause-place c =
     head_ended c.args.text.now (is_a c.args.text.now Place) c.is_of_oops-is_open.result c.lines.at c.in-Some.line
-        c.lines.place _
+    c.lines.place _
     c.kind_by-mark.result c.lines.invariant.1 c.in-Some.ensures.line c.kind_by-mark.ensures
     (sym c.ends_report.ensures ∙ c.if-ends_report.true)
 
 pub returns-then-ends_report-clause-link : goal.returns-then-ends_report-clause-link
 returns-then-ends_report-clause-link c =
     head_ended c.args.text.now (is_a c.args.text.now Link) c.is_of_oops-is_open.result c.lines.at c.in-Some.line
-        c.lines.link _
+    c.lines.link _
     c.kind_by-mark.result c.lines.invariant.2 c.in-Some.ensures.line c.kind_by-mark.ensures
     (sym c.ends_report.ensures ∙ c.if-ends_report.true)
 
 pub returns-then-ends_report-clause-entry : goal.returns-then-ends_report-clause-entry
 returns-then-ends_report-clause-entry c =
     head_ended c.args.text.now (λ line. is_entry (said c.args.text.now line)) c.is_of_oops-is_open.result c.lines.at
-        c.in-Some.line c.lines.entry _
+    c.in-Some.line c.lines.entry _
     c.kind_by-mark.result c.lines.invariant.3 c.in-Some.ensures.line c.kind_by-mark.ensures
     (sym c.ends_report.ensures ∙ c.if-ends_report.true)
 
 pub returns-in_default-clause-processor : goal.returns-in_default-clause-processor
 returns-in_default-clause-processor c =
     head_none c.args.text.now (is_a c.args.text.now Processor) c.is_of_oops-is_open.result c.lines.at c.lines.processor
-        _ c.lines.invariant.0
+    _ c.lines.invariant.0
     c.in_default.ensures.none
 
 pub returns-in_default-clause-place : goal.returns-in_default-clause-place
 returns-in_default-clause-place c =
     head_none c.args.text.now (is_a c.args.text.now Place) c.is_of_oops-is_open.result c.lines.at c.lines.place _
-        c.lines.invariant.1
+    c.lines.invariant.1
     c.in_default.ensures.none
 
 pub returns-in_default-clause-link : goal.returns-in_default-clause-link
 returns-in_default-clause-link c =
     head_none c.args.text.now (is_a c.args.text.now Link) c.is_of_oops-is_open.result c.lines.at c.lines.link _
-        c.lines.invariant.2
+    c.lines.invariant.2
     c.in_default.ensures.none
 
 pub returns-in_default-clause-entry : goal.returns-in_default-clause-entry
 returns-in_default-clause-entry c =
     head_none c.args.text.now (λ line. is_entry (said c.args.text.now line)) c.is_of_oops-is_open.result c.lines.at
-        c.lines.entry _ c.lines.invariant.3
+    c.lines.entry _ c.lines.invariant.3
     c.in_default.ensures.none
 
 pub returns-then-ends_report-clause-own : goal.returns-then-ends_report-clause-own
 returns-then-ends_report-clause-own c =
     head_ended c.args.text.now (is_a c.args.text.now Own) c.is_of_oops-is_open.result c.lines.at c.in-Some.line
-        c.lines.own _
+    c.lines.own _
     c.kind_by-mark.result c.lines.invariant.4 c.in-Some.ensures.line c.kind_by-mark.ensures
     (sym c.ends_report.ensures ∙ c.if-ends_report.true)
 
 pub returns-in_default-clause-own : goal.returns-in_default-clause-own
 returns-in_default-clause-own c =
     head_none c.args.text.now (is_a c.args.text.now Own) c.is_of_oops-is_open.result c.lines.at c.lines.own _
-        c.lines.invariant.4
+    c.lines.invariant.4
     c.in_default.ensures.none
