@@ -1,5 +1,5 @@
 // The line of a report.
-ghost use Rattle.std.specs.Prelude.{◌≡◌, ◌∷◌, length, string_bytes, codes, IfOk, OnOk};
+ghost use Rattle.std.specs.Prelude.{◌≡◌, ◌∷◌, length, codes, IfOk, OnOk};
 ghost use Rattle.json.specs.Token.{key};
 ghost use Rattle.report_spec.specs.Deaths.{death_told as death_of};
 ghost use Rattle.report_json.specs.Schema.{IsLine};
@@ -41,10 +41,10 @@ pub fn json(
     zones: &[Zone],
     report: &Report,
     better: &str,
-) -> Result<String, AllocError>
+) -> Result<Vec<u8>, AllocError>
     requires readings { length report.now.logs.readings ≡ length zones.now }
     requires parts { length report.now.parts ≡ length zones.now }
-    ensures { IfOk result (λ text. IsLine path.now division.now zones.now better.now report.now (string_bytes text)) }
+    ensures { IfOk result (λ text. IsLine path.now division.now zones.now better.now report.now text.items) }
 {
     let records = report.records();
     let told = death_told(records);

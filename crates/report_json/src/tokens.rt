@@ -1,5 +1,5 @@
 // A line of JSON, written token by token.
-ghost use Rattle.std.specs.Prelude.{◌≡◌, [], ◌∷◌, reverse, decimal, option_map, codes, IfOk, OnOk, string_bytes};
+ghost use Rattle.std.specs.Prelude.{◌≡◌, [], ◌∷◌, reverse, decimal, option_map, codes, IfOk, OnOk};
 ghost use Rattle.json.specs.Token.{begin_object, end_object, begin_array, end_array, key, string, number, boolean, null};
 ghost use Rattle.json.specs.Lex.{tokens};
 ghost use Rattle.json.specs.Print.{print, IsPrintable};
@@ -149,13 +149,11 @@ impl Line {
     }
 
     /// The text of the line.
-    pub fn finish(self) -> String
-        ensures compact { string_bytes result ≡ print (reverse self) }
-        ensures tokens { tokens (string_bytes result) ≡ reverse self }
+    pub fn finish(self) -> Vec<u8>
+        ensures compact { result.items ≡ print (reverse self) }
+        ensures tokens { tokens result.items ≡ reverse self }
         ensures plain { ArePlain (reverse self) }
     {
-        let bytes = self.out.into_inner();
-        // The writer's clause says that these are UTF-8.
-        unsafe { String::from_utf8_unchecked(bytes) }
+        self.out.into_inner()
     }
 }

@@ -1,5 +1,5 @@
 -- The line has the data of the report, member by member
-use Rattle.std.proofs.Common.{◌≡◌, ◌∙◌, ◌∷◌, [], List, length, Option, subst, ap, sym, refl, map, codes, string_bytes, decimal}
+use Rattle.std.proofs.Common.{◌≡◌, ◌∙◌, ◌∷◌, [], List, length, Option, subst, ap, sym, refl, map, codes, decimal}
 use Rattle.json.specs.Token.{Token}
 use Rattle.json.specs.Print.{print}
 use Rattle.serde_json.specs.Data.{Data, array}
@@ -63,7 +63,7 @@ returns c =
           (length c.args.zones.now) values) c.parts.ensures
           (subst (λ (l : SavedLogs). AreZones c.args.zones.now l.readings c.parts.result.now
           (length c.args.zones.now) values) c.logs-2.ensures zones.1.are);
-      in_order = in_order (string_bytes c.finish.result) (line_data held c.args.better.now c.args.path.now
+      in_order = in_order c.finish.result.items (line_data held c.args.better.now c.args.path.now
           c.args.division.now values (map shown held.records)) c.end_object.new.self ended c.finish.ensures.tokens
           c.finish.ensures.plain;
       compact = c.finish.ensures.compact ∙ ap print (sym c.finish.ensures.tokens);
