@@ -169,7 +169,8 @@ append-failed l store b ring payload kept tried h =
     ap (λ (cause : Option Cause). unless_refused cause (failed_call store b (append_of b ring payload) kept tried)
     (record { store = store; blk = Some b })) (append-unrefused b ring payload h)
 
-pub follows-ring : (l : BlkLayout) (b : BlkState) (store : List ℕ) (t : ToldRings) (ring : BlkRing) → Follows l b store t
+pub follows-ring : (l : BlkLayout) (b : BlkState) (store : List ℕ) (t : ToldRings) (ring : BlkRing)
+    → Follows l b store t
     → Keeps (ring_zone l ring) (ring_of b ring) store (told_of t ring)
 follows-ring l b store t ConsoleRing f = f.console
 follows-ring l b store t PmsgRing f = f.pmsg

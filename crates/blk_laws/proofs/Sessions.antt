@@ -200,7 +200,8 @@ load-goes l store valid room =
 
 -- ---- the calls on a loaded store
 
-module _ (store : List ℕ) (b : BlkState) (t : ToldRings) (valid : IsLayout b.layout) (room : b.layout.total ≤ length store)
+module _ (store : List ℕ) (b : BlkState) (t : ToldRings) (valid : IsLayout b.layout)
+    (room : b.layout.total ≤ length store)
     (f : none_dropped b.cut ≡ true → Follows b.layout b store t) where
   still : Goes b.layout (record { store = store; blk = Some b }) t
   still = record { room = room; state = (refl, f) }
@@ -424,7 +425,8 @@ module _ (store : List ℕ) (b : BlkState) (t : ToldRings) (valid : IsLayout b.l
 
 -- ---- the lines of a session
 
-line-goes : (l : BlkLayout) (store : List ℕ) (blk : Option BlkState) (t : ToldRings) (operation : Operation) → IsLayout l
+line-goes : (l : BlkLayout) (store : List ℕ) (blk : Option BlkState) (t : ToldRings) (operation : Operation)
+    → IsLayout l
     → Goes l (record { store = store; blk = blk }) t
     → Goes l (session_after l (record { store = store; blk = blk }) operation)
     (unless_told (cause_of blk operation) (told_by operation t) t)

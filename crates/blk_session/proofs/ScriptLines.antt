@@ -292,7 +292,8 @@ plays_all layout lines i blk a b all so_far bytes told =
     }
 
 -- a stop's cause, whether the store tells its bytes or not
-pub stop_caused : (stop : LineStop) (layout : BlkLayout) (blk : Option BlkState) (line : Line) (number : ℕ) (a b c : Seen)
+pub stop_caused : (stop : LineStop) (layout : BlkLayout) (blk : Option BlkState) (line : Line) (number : ℕ)
+    (a b c : Seen)
     → a.store_faults ≤ b.store_faults → a.sink_faults ≤ b.sink_faults → LineStops stop layout blk line number b c
     → BlkPlayCaused (Err stop) a.store_faults c.store_faults a.sink_faults c.sink_faults
 stop_caused Memory layout blk line number a b c s o h = tt

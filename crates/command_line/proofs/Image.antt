@@ -64,12 +64,14 @@ can_read class refused reads = absurd (true≢false (sym reads))
 pub load_can : (plan : RamPlan) (c : RamCommand) (s : Stop) (mem : ℕ) (holds : Option (List ℕ)) (f g : ℕ)
     → plan.command ≡ c → reads_image (class_of c) ≡ true → LoadStop s mem holds f g → CanEnd plan (Err s)
 load_can plan c s mem holds f g is reads h = load_stops (λ t. CanEnd plan (Err t)) mem holds f g
-    (rw is ((can_read (class_of c) (names_one c) reads).0)) (λ rose. rw is ((can_read (class_of c) (names_one c) reads).2))
+    (rw is ((can_read (class_of c) (names_one c) reads).0))
+    (λ rose. rw is ((can_read (class_of c) (names_one c) reads).2))
     (λ has needed size. rw is ((can_read (class_of c) (names_one c) reads).1)) s h
 
 -- the image was read, and what is wanted of it was done
 pub image_done : (plan : RamPlan) (c : RamCommand) (a b : Outside) (image : List ℕ) (e : End) → plan.command ≡ c
-    → reads_image (class_of c) ≡ true → IfSome a.holds (λ bs. (mem_of plan ≤ length bs) × (image ≡ take (mem_of plan) bs))
+    → reads_image (class_of c) ≡ true
+    → IfSome a.holds (λ bs. (mem_of plan ≤ length bs) × (image ≡ take (mem_of plan) bs))
     → Ended (wanted_of plan.params plan.zones image [] c) a b e
     → IfHolds a (λ bytes. Ended (wanted plan bytes []) a b e)
 image_done plan c a b image e is reads loaded h = record {

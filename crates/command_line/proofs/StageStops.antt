@@ -22,7 +22,8 @@ module _ (P : Stop → Type 0) where
   -- reading a script and its lines
   pub script_stops : (left rest : Option (List ℕ)) (f g : ℕ) → P Memory → (Rose f g → P ScriptFault)
       → (IfSome left (λ bs. script_limit < length bs) → P TooLong)
-      → ((n : ℕ) → IsAtEnd rest × IfSome left (λ bs. (length bs ≤ script_limit) × (script_of bs ≡ Err n)) → P (BadLine n))
+      → ((n : ℕ) → IsAtEnd rest × IfSome left (λ bs. (length bs ≤ script_limit) × (script_of bs ≡ Err n))
+      → P (BadLine n))
       → (s : Stop) → ScriptStop s left rest f g → P s
   script_stops left rest f g memory fault long bad Memory h = memory
   script_stops left rest f g memory fault long bad ScriptFault h = fault h

@@ -39,7 +39,8 @@ class_can_fail RunsScript refused = refl
 class_can_fail class refused = refl
 
 -- the status of an end, or 7
-pub among : {A : Type 0} (all : List ℕ) (n status : ℕ) → IsAmong all n → IsAmong all 7 → (status ≡ n) ⊎ ((status ≡ 7) × A)
+pub among : {A : Type 0} (all : List ℕ) (n status : ℕ) → IsAmong all n → IsAmong all 7 → (status ≡ n)
+    ⊎ ((status ≡ 7) × A)
     → IsAmong all status
 among all n status h k (inl is) = rw is h
 among all n status h k (inr is) = rw is.0 k

@@ -142,7 +142,8 @@ moved_by plan bytes true e h = absurd (short_not_done (wanted_move plan bytes) (
 moved_by plan bytes false e h = rw e refl
 
 pub move_reads : (plan : MovePlan) (a b : Outside) (status : ℕ) → IsLaidMove plan → IfSome a.holds AreBytes
-    → ImageAnswers (statuses (OfMove plan)) (wanted_move plan) a b status → status ≡ 0 → IfHolds a (λ bytes. Moves plan bytes b)
+    → ImageAnswers (statuses (OfMove plan)) (wanted_move plan) a b status → status ≡ 0
+    → IfHolds a (λ bytes. Moves plan bytes b)
 move_reads plan a b status laid held answers zero = record {
   told = λ bytes holds.
       let d = (answers.whole.told bytes holds).done zero in

@@ -451,7 +451,8 @@ corrections_keep_reading z now k valid im h =
     let rest : List Store = stores_in_turn z (boot_erasure z now) (after_stores now (boot_fixes z now)) in
     let y : List ℕ = after_stores now (take k (boot_fixes z now)) in
     let is : after_boot_stores z now k ≡ y = ap (after_stores now) (take-append-le k (boot_fixes z now) rest h) in
-    let words : words_read z y ≡ words_read z now = ap (words_in z.byte_order) (fixed_mended z valid now im k Header).reading in
+    let words : words_read z y ≡ words_read z now = ap (words_in z.byte_order)
+    (fixed_mended z valid now im k Header).reading in
     let r : ZoneReading = zone_reading z now in
     let reads : zone_reading z y ≡ reading_in z y r.words r.state =
     reading_is z y ∙ ap (λ w. reading_in z y w (state_of z w)) (words ∙ sym (reading_words z now))

@@ -333,7 +333,8 @@ header_codeword-says order r w a b c =
     let b4 : List ℕ = word_bytes order w.start in
     let c4 : List ℕ = word_bytes order w.size in
     let all : AllByRecursion (λ b. b < 256) bytes = AllByRecursion-append (λ b. b < 256) (a4 ++ b4) c4
-    (AllByRecursion-append (λ b. b < 256) a4 b4 (bytes-all a4 (word-bytes order w.sig)) (bytes-all b4 (word-bytes order w.start)))
+    (AllByRecursion-append (λ b. b < 256) a4 b4 (bytes-all a4 (word-bytes order w.sig))
+    (bytes-all b4 (word-bytes order w.start)))
     (bytes-all c4 (word-bytes order w.size)) in
     let made : IsWord r (parity_of r bytes) × IsCodeword r (bytes ++ parity_of r bytes) =
     parity_made r bytes (refl, all) in
@@ -369,7 +370,8 @@ windows_ok z ((g ∷ gs) ∷ parts) header h small =
     let bounds = after-small (g ∷ gs) (words_in z.byte_order header) small.0 h.sig h.start h.size in
     let closing : SaysWords z.byte_order z.parity w (header_codeword z.byte_order z.parity w) =
     header_codeword-says z.byte_order z.parity w bounds.0 bounds.1 bounds.2 in
-    let own : nearest z.parity (header_codeword z.byte_order z.parity w) ≡ Some (header_codeword z.byte_order z.parity w) =
+    let own : nearest z.parity (header_codeword z.byte_order z.parity w)
+    ≡ Some (header_codeword z.byte_order z.parity w) =
     nearest-codeword z.parity (header_codeword z.byte_order z.parity w) closing.codeword in (
       record {
         opening = λ c e.
@@ -385,7 +387,8 @@ windows_ok z ((g ∷ gs) ∷ parts) header h small =
       windows_ok z parts (header_codeword z.byte_order z.parity w) (record {
         word = closing.word;
         stands = λ c e. (let same : header_codeword z.byte_order z.parity w
-            ≡ c = (let k : Some (header_codeword z.byte_order z.parity w) ≡ Some c = sym own ∙ e in cc) in ap (words_in z.byte_order) (sym same));
+            ≡ c = (let k : Some (header_codeword z.byte_order z.parity w) ≡ Some c = sym own ∙ e in cc)
+            in ap (words_in z.byte_order) (sym same));
         sig = subst (λ v. v.sig < 2 ^ 32) (sym closing.words) bounds.0;
         start = subst (λ v. v.start < 2 ^ 32) (sym closing.words) bounds.1;
         size = subst (λ v. v.size < 2 ^ 32) (sym closing.words) bounds.2;
@@ -498,7 +501,8 @@ is_header z x valid im stands =
     let bounds = standing-small x im.1 in
     record {
       word = subst (λ n. IsWord n (part_word z x Header)) l.1 (part_word-IsWord z x Header im.1);
-      stands = λ c e. sym (words_taken z.byte_order c (length (part_bytes z x Header)) l.0) ∙ ap (words_in z.byte_order) (stands c e) ∙ sym words;
+      stands = λ c e. sym (words_taken z.byte_order c (length (part_bytes z x Header)) l.0)
+          ∙ ap (words_in z.byte_order) (stands c e) ∙ sym words;
       sig = subst (λ v. v.sig < 2 ^ 32) (sym words) bounds.0;
       start = subst (λ v. v.start < 2 ^ 32) (sym words) bounds.1;
       size = subst (λ v. v.size < 2 ^ 32) (sym words) bounds.2;

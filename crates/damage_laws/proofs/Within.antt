@@ -140,7 +140,8 @@ pub idle_facts : (z : Zone) (stop now told : List ℕ) → IsRingForm z stop tol
 unfolding part_bytes
 idle_facts z stop now told ring head =
     let w : Words = standing_words z stop in
-    let words : words_read z now ≡ w = ap (words_in z.byte_order) (head ∙ part_reading-stands z stop Header ring.header) in
+    let words : words_read z now ≡ w = ap (words_in z.byte_order)
+    (head ∙ part_reading-stands z stop Header ring.header) in
     let state : state_of z w ≡ (if length told == 0 then Empty else Found) =
     state_of-ring z w ring.signed ring.ring.0 ring.ring.1
     ∙ ap (λ n. if n == 0 then Empty else Found) ring.told_length in

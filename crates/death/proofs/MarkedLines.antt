@@ -23,7 +23,8 @@ or_or None y z = refl
 or_or (Some x) y z = refl
 
 -- a line if it counts, else the one so far
-pub or_cond : (t : Bool) (line : Line) (last : Option Line) → option_or (cond t (Some line) None) last ≡ cond t (Some line) last
+pub or_cond : (t : Bool) (line : Line) (last : Option Line) → option_or (cond t (Some line) None) last
+    ≡ cond t (Some line) last
 or_cond true line last = refl
 or_cond false line last = refl
 
@@ -81,7 +82,8 @@ first_more text p is_open line lines found e =
     by (Some y) t = refl
 
 -- the same from the place of the line on, by what was found of the line
-pub head_more : (text : List ℕ) (p : Line → Bool) (is_open : Bool) (at : ℕ) (line : Line) (found wanted now : Option Line)
+pub head_more : (text : List ℕ) (p : Line → Bool) (is_open : Bool) (at : ℕ) (line : Line)
+    (found wanted now : Option Line)
     (k : Option Mark) (t : Bool)
     → wanted ≡ option_or found (first_where p (in_report text is_open (lines_from text at)))
     → lines_from text at ≡ line ∷ lines_from text line.next → k ≡ kind text line → ends_report is_open k ≡ false

@@ -15,7 +15,8 @@ stand_step : (words text : List ℕ) (at : ℕ) → at < length text
 unfolding stand_in
 stand_step words text at inside =
     ap (stand_in words) (drop_more text at 0 inside)
-    ∙ ap (λ rest. starts_with nat_eq rest words || stand_in words (drop (at + 1) text)) (sym (drop_more text at 0 inside))
+    ∙ ap (λ rest. starts_with nat_eq rest words || stand_in words (drop (at + 1) text))
+    (sym (drop_more text at 0 inside))
 
 pub stand_yes : (words text : List ℕ) (at : ℕ) → at < length text → starts_with nat_eq (drop at text) words ≡ true
     → stand_in words (drop at text) ≡ true
@@ -42,11 +43,13 @@ start_within false at start now before is = omega (arith, before, is)
 -- at a byte: an offset begins, or it is looked for behind it
 named_step : (text : List ℕ) (at start : ℕ) → at < length text
     → named_from at start (drop at text)
-    ≡ cond (begins Offset (drop at text)) (Some start) (named_from (at + 1) (start_by text at start) (drop (at + 1) text))
+    ≡ cond (begins Offset (drop at text)) (Some start)
+    (named_from (at + 1) (start_by text at start) (drop (at + 1) text))
 unfolding named_from
 named_step text at start inside =
     ap (named_from at start) (drop_more text at 0 inside)
-    ∙ ap (λ rest. cond (begins Offset rest) (Some start) (named_from (at + 1) (start_by text at start) (drop (at + 1) text)))
+    ∙ ap (λ rest. cond (begins Offset rest) (Some start)
+    (named_from (at + 1) (start_by text at start) (drop (at + 1) text)))
     (sym (drop_more text at 0 inside))
 
 pub named_yes : (text : List ℕ) (at start : ℕ) → at < length text → begins Offset (drop at text) ≡ true

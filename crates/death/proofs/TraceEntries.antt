@@ -73,7 +73,8 @@ entry_past text at h = ap (taken text) h
 
 -- an entry that is not to blame is passed
 pub blame_no : (text : List ℕ) (hangs : Bool) (line : Line) (lines : List Line)
-    → is_helper hangs (unplaced (said text line)) ≡ true → to_blame text hangs (line ∷ lines) ≡ to_blame text hangs lines
+    → is_helper hangs (unplaced (said text line)) ≡ true → to_blame text hangs (line ∷ lines)
+    ≡ to_blame text hangs lines
 unfolding to_blame
 blame_no text hangs line lines e = ap (λ t. cond t (to_blame text hangs lines) (Some line)) e
 

@@ -51,7 +51,8 @@ escape_len text =
 abbrev pub bracketed_len : List ℕ → ℕ
 bracketed_len text =
     let close = run Bracketed text in
-    if nat_lt 0 close && nat_lt close (length text) && nat_lt 0 (landmark_end Clock 5 (take close text) 1) then close + 1 else 0
+    if nat_lt 0 close && nat_lt close (length text) && nat_lt 0 (landmark_end Clock 5 (take close text) 1)
+    then close + 1 else 0
 
 -- a date without brackets begins with a digit, or with a word of three letters such as `Nov`
 abbrev pub begins_date : List ℕ → Bool

@@ -23,7 +23,8 @@ use Rattle.death_spec.specs.Traces.{name_at, unplaced, name_in, is_entry, entrie
 -- the lines of the report below a line
 abbrev pub report : List ℕ → Line → List Line
 report text telling =
-    take_while (λ line. not (ends_report (is_of_oops (kind text telling)) (kind text line))) (lines_from text telling.next)
+    take_while (λ line. not (ends_report (is_of_oops (kind text telling)) (kind text line)))
+    (lines_from text telling.next)
 
 unfoldable pub first_where : (Line → Bool) → List Line → Option Line
 first_where counts [] = None
@@ -174,7 +175,8 @@ abbrev pub kind_if : List ℕ → Option Line → Option Mark
 kind_if text None = None
 kind_if text (Some line) = kind text line
 
--- a warning's message stands between `cut here` and its head, and that of a bug above both (WARN, CHECK_DATA_CORRUPTION)
+-- a warning's message stands between `cut here` and its head, and that of a bug above both
+-- (WARN, CHECK_DATA_CORRUPTION)
 abbrev pub message_in : List ℕ → Option Mark → Above → Option Line
 message_in text head found =
     if is_mark Warning head && is_mark Cut (kind_if text found.upper) && not (is_mark Cut (kind_if text found.lower))

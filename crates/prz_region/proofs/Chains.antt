@@ -16,7 +16,7 @@ use Rattle.zone_spec.specs.Parts.{AreBytes}
 use Rattle.prz_region.specs.Chain.{piece_bytes, all_bytes, all_len, SamePlace, Chain, Laid}
 use Rattle.zone_spec.specs.Stores.{Store, after_stores}
 use Rattle.prz_region.specs.Made.{Write, in_span}
-use Rattle.prz_region.specs.CutRegion.{CutRegion, span, stored}
+use Rattle.prz_region.specs.CutRegion.{CutRegion, stored}
 
 pub chain-set : (p q : Ptr) (ss : List Piece) (i : ℕ) (s s' : Piece) → i < length ss → s ≡ get_or ss i s
     → SamePlace s s' → Chain p ss q → Chain p (set ss i s') q

@@ -1,5 +1,5 @@
 -- What a store of zone_spec makes of a list, as the list's parts and as single bytes
-use Rattle.std.proofs.Common.{◌≡◌, ℕ, ◌+◌, ◌<◌, ◌≤◌, zero, suc, w32, lit<, refl, List, [], ◌∷◌, ◌++◌, length, get_or}
+use Rattle.std.proofs.Common.{◌≡◌, ℕ, ◌+◌, ◌<◌, ◌≤◌, zero, suc, lit<, refl, List, [], ◌∷◌, ◌++◌, length, get_or}
 use Rattle.std.proofs.Common.{set, take, drop, sym, ap, ◌∙◌, arith, append_assoc, add-one, add-zero, length-set}
 use lib.ListN.{take-append-drop}
 use mathlib.Core.List.{append-nil}
@@ -7,9 +7,10 @@ use Rattle.std.proofs.lemmas.List.{drop-set-lt, drop_more}
 use Rattle.std.proofs.Math.ListN.{drop_of_length-le}
 use Rattle.std.proofs.Math.Seq.{take-suc-set}
 use Rattle.zone_spec.specs.Parts.{AreBytes}
-use Rattle.zone_spec.specs.Stores.{put, after_stores, byte_stores}
+use Rattle.zone_spec.specs.Stores.{Store, put, after_stores, byte_stores}
 use Rattle.zone_spec.specs.declared.params.ByteOrder.{ByteOrder}
 use Rattle.zone_spec.specs.WordBytes.{word_bytes}
+use Rattle.prz_region.specs.Made.{Write, in_span, run_writes}
 
 -- bytes put at a place within the list
 pub put-parts : (xs : List ℕ) (at : ℕ) (bs : List ℕ) → at + length bs ≤ length xs
@@ -93,3 +94,30 @@ put-next xs at bs i lt = ap (λ (l : List ℕ). put xs at l) (sym (drop_more bs 
 pub put-end : (xs : List ℕ) (at : ℕ) (bs : List ℕ) (i : ℕ) → length bs ≤ i → put xs at (drop i bs) ≡ xs
 unfolding put
 put-end xs at bs i le = ap (λ (l : List ℕ). put xs at l) (drop_of_length-le bs le)
+
+-- bytes put after others
+pub put-append : (xs : List ℕ) (at : ℕ) (fs bs : List ℕ)
+    → put xs at (fs ++ bs) ≡ put (put xs at fs) (at + length fs) bs
+unfolding put
+put-append xs at [] bs = ap (λ (n : ℕ). put xs n bs) (sym (add-zero at))
+put-append xs at (a ∷ fs) bs =
+    put-append (set xs at a) (at + 1) fs bs
+    ∙ (let n : at + 1 + length fs ≡ at + length (a ∷ fs) = omega arith in
+    ap (λ (n : ℕ). put (put (set xs at a) (at + 1) fs) n bs) n)
+
+-- a store for each byte, those of some bytes before those of others
+pub byte_stores-append : (at : ℕ) (fs bs : List ℕ)
+    → byte_stores at (fs ++ bs) ≡ byte_stores at fs ++ byte_stores (at + length fs) bs
+unfolding byte_stores
+byte_stores-append at [] bs = ap (λ (n : ℕ). byte_stores n bs) (sym (add-zero at))
+byte_stores-append at (a ∷ fs) bs =
+    let n : at + 1 + length fs ≡ at + length (a ∷ fs) = omega arith in
+    ap (λ (ss : List Store). record { place = at; bytes = a ∷ [] } ∷ ss)
+    (byte_stores-append (at + 1) fs bs ∙ ap (λ (n : ℕ). byte_stores (at + 1) fs ++ byte_stores n bs) n)
+
+-- the writes of a run are those stores in the span
+pub run-in_span : (i at : ℕ) (bs : List ℕ) → run_writes i at bs ≡ in_span i (byte_stores at bs)
+unfolding run_writes byte_stores
+run-in_span i at [] = refl
+run-in_span i at (b ∷ bs) =
+    ap (λ (ws : List (Write ℕ)). record { span = i; place = at; values = b ∷ [] } ∷ ws) (run-in_span i (at + 1) bs)

@@ -6,7 +6,7 @@ ghost use Rattle.std.specs.Vec.{vec_ptr, vec_len};
 ghost use Rattle.core.specs.Mem.Slots.{slots_items, slots_ptr, slots_len, IsFull, SamePlaces};
 ghost use Rattle.core.specs.Mem.Slots.Ownership.{bytes_of};
 ghost use Rattle.std.specs.Prelude.{map};
-ghost use Rattle.prz_region.specs.Made.{Write};
+ghost use Rattle.prz_region.specs.Made.{Write, run_writes};
 ghost use Rattle.prz_region.specs.Chain.{piece_bytes};
 
 use crate::pieces::Piece;
@@ -37,7 +37,7 @@ impl<T, A: Allocator> Move for Shell<T, A> {
 }
 
 /// The stores made into a block, the first one first, each with the number of its span. The list is for proofs alone:
-/// it takes no room and no time, and only `store_array` adds to it.
+/// it takes no room and no time, and only `store_array` and `store_run` add to it.
 #[derive(Drop)]
 pub struct Stores<T> {
     marker: PhantomData<T>,
@@ -74,6 +74,29 @@ pub(crate) fn store_array<T, const N: usize>(
     ensures full { IsFull row.new }
     ensures places { SamePlaces row.old row.new }
     ensures made { stores.new.made ≡ stores.old.made ++ record { span = span; place = at; values = values } ∷ [] }
+    ensures sized { length values ≡ N }
+{
+    let _ = span;
+    let _ = stores;
+    unsafe { (base.add(at) as *mut [T; N]).write(values) }
+}
+
+/// Stores an array over the values from `at` of a row on, rising, in a store for each value, and adds these stores to the
+/// list. The row begins at `base`, and is that of the span with this number. The prover sees what the bytes become; that
+/// the list gets an entry for each value is to be read here.
+pub(crate) fn store_run<T, const N: usize>(
+    row: &mut Slots<T>,
+    base: *mut T,
+    at: usize,
+    values: [T; N],
+    span: u32,
+    stores: &mut Stores<T>,
+)
+    requires { (slots_ptr row.old ≡ base) × (at + N ≤ slots_len row.old) × IsFull row.old }
+    ensures items { slots_items row.new ≡ take at (slots_items row.old) ++ values ++ drop (at + N) (slots_items row.old) }
+    ensures full { IsFull row.new }
+    ensures places { SamePlaces row.old row.new }
+    ensures made { stores.new.made ≡ stores.old.made ++ run_writes span at values }
     ensures sized { length values ≡ N }
 {
     let _ = span;

@@ -1,11 +1,11 @@
 -- A flight's steps are those of its call
-use Rattle.std.proofs.Common.{◌≡◌, ℕ, List, refl, ap, ap₂, ◌∙◌, sym}
+use Rattle.std.proofs.Common.{◌≡◌, ℕ, List, refl, ap, ap₂, ◌∙◌}
 use Rattle.zone_spec.specs.Told.{Call}
 use Rattle.prz_write.specs.declared.call.Call.{Call as RustCall}
 use Rattle.prz_write.specs.declared.call.Call.TheVariants.{Append as RustAppend, Erase as RustErase, Dump as RustDump}
 use Rattle.prz_write.specs.declared.progress.Progress.{Progress}
 use Rattle.store_steps.specs.Calls.{call_of}
-use Rattle.store_steps.specs.Flying.{Flying, flying}
+use Rattle.store_steps.specs.Flying.{flying}
 use Rattle.prz_write.specs.Calls.{call_seen, kind_seen, line_seen, payload_seen}
 use Rattle.prz_write.specs.Seen.{seen}
 

@@ -2,3 +2,4 @@
 -- them.
 pub mod CallSteps
 pub mod SpanStores
+pub mod WholeMade

@@ -1,12 +1,12 @@
 -- Stores as they are handed out, made in a span, and some after others
-use Rattle.std.proofs.Common.{◌≡◌, ℕ, ◌+◌, ◌-◌, ◌<◌, ◌≤◌, List, [], ◌++◌, refl, sym, ap, ◌∙◌, take, drop, length}
+use Rattle.std.proofs.Common.{◌≡◌, ℕ, ◌+◌, ◌<◌, List, [], ◌++◌, refl, sym, ap, ◌∙◌, take, drop, length}
 use Rattle.std.proofs.Common.{length-append, arith}
 use lib.Seq.{drop-drop}
 use Rattle.std.proofs.Math.Seq.{take-add}
 use Rattle.ring_laws.proofs.Images.{length-after_stores}
 use Rattle.zone_spec.specs.Stores.{Store as DefinedStore, byte_stores}
 use Rattle.prz_region.specs.CutRegion.{CutRegion, span, stored}
-use Rattle.prz_region.proofs.Cuts.{stored-again, stored-none, span-stored, spans-length}
+use Rattle.prz_region.proofs.Cuts.{stored-again, stored-none, span-stored, span-length, spans-length}
 use Rattle.store_steps.specs.declared.store.Store.{Store}
 use Rattle.store_steps.specs.Handed.{handed}
 use Rattle.prz_write.specs.Made.{HasStored}
@@ -50,3 +50,22 @@ pub has_same_len : (old new : CutRegion) (i n : ℕ) → i < length old.spans �
     → length (span new i) ≡ length (span old i)
 has_same_len old new i n lt h = ap (λ (c : CutRegion). length (span c i)) h.made
     ∙ ap length (span-stored old i h.stores lt) ∙ length-after_stores (span old i) h.stores
+
+-- stores in a span, and then others there
+two : (old mid new : CutRegion) (i : ℕ) (a b : List DefinedStore) → i < length old.spans → mid ≡ stored old i a
+    → new ≡ stored mid i b → new ≡ stored old i (a ++ b)
+two old mid new i a b lt e f = f ∙ ap (λ (c : CutRegion). stored c i b) e ∙ stored-again old i a b lt
+
+pub four : (r0 r1 r2 r3 r4 : CutRegion) (i : ℕ) (a b c d : List DefinedStore) → i < length r0.spans
+    → r1 ≡ stored r0 i a → r2 ≡ stored r1 i b → r3 ≡ stored r2 i c → r4 ≡ stored r3 i d
+    → r4 ≡ stored r0 i ((a ++ b) ++ (c ++ d))
+four r0 r1 r2 r3 r4 i a b c d lt e f g h =
+    let front : r2 ≡ stored r0 i (a ++ b) = two r0 r1 r2 i a b lt e f in
+    let same : length r2.spans ≡ length r0.spans =
+    ap (λ (x : CutRegion). length x.spans) front ∙ spans-length r0 i (a ++ b) in
+    two r0 r2 r4 i (a ++ b) (c ++ d) lt front (two r2 r3 r4 i c d (omega (arith, lt, same)) g h)
+
+-- the span is as long as before
+pub same_len : (old new : CutRegion) (i : ℕ) (ss : List DefinedStore) → new ≡ stored old i ss
+    → length (span new i) ≡ length (span old i)
+same_len old new i ss e = ap (λ (c : CutRegion). length (span c i)) e ∙ span-length old i i ss

@@ -11,7 +11,7 @@ ghost use Rattle.store_steps.specs.Calls.{IsOpenFor};
 ghost use Rattle.prz_write.specs.Calls.{call_seen};
 
 use crate::call::Call;
-use crate::putting::make;
+use crate::putting::{make, make_whole};
 use prz_region::{Span, Spans};
 use store_steps::{Steps, Store};
 use zone_spec::Zone;
@@ -84,8 +84,8 @@ impl Progress {
         self.steps.made - made
     }
 
-    /// Makes the next `count` stores, or all that are left.
-    pub fn advance(&mut self, table: &[u128], spans: &mut Spans, i: u32, count: u64)
+    // Makes the next `count` stores, or all that are left, one word, run or parity after another.
+    fn make_stores(&mut self, table: &[u128], spans: &mut Spans, i: u32, count: u64)
         requires held { IsHeld self.old }
         requires table { IsLent self.old.steps.zone.parity table.now }
         requires has { i < length spans.old.spans }
@@ -104,6 +104,30 @@ impl Progress {
         let mut left = count;
         'stores: while left > 0 && !self.steps.is_finished() {
             left -= self.make_next(table, spans, i, left, &mut out);
+        }
+    }
+
+    /// Makes the next `count` stores, or all that are left.
+    pub fn advance(&mut self, table: &[u128], spans: &mut Spans, i: u32, count: u64)
+        requires held { IsHeld self.old }
+        requires table { IsLent self.old.steps.zone.parity table.now }
+        requires has { i < length spans.old.spans }
+        requires len { length (span spans.old i) ≡ self.old.steps.zone.size }
+        ensures held { IsHeld self.new }
+        ensures same { IsSameCall (seen self.old) (seen self.new) }
+        ensures made { self.new.steps.made ≡ min (self.old.steps.made + count) (total_of (seen self.old)) }
+        ensures stands { (before : List ℕ) → StandsFor (seen self.old) (span spans.old i) before
+            → StandsFor (seen self.new) (span spans.new i) before }
+        ensures stores { (before : List ℕ) → StandsFor (seen self.old) (span spans.old i) before
+            → spans.new ≡ stored spans.old i (take count
+            (drop self.old.steps.made (call_stores self.old.steps.zone (seen self.old).call before))) }
+        ensures count { HasStored i (self.new.steps.made - self.old.steps.made) spans.old spans.new }
+    {
+        let line = self.call.line();
+        let payload = self.call.payload();
+        match self.steps.take_whole(line, payload, count) {
+            Some(whole) => make_whole(&whole, payload, spans, i),
+            None => self.make_stores(table, spans, i, count),
         }
     }
 }

@@ -11,3 +11,6 @@ pub mod ReasonRows
 pub mod DigitRuns
 pub mod SaidLines
 pub mod ConsoleLogs
+pub mod SameLines
+pub mod MendedLines
+pub mod MendedRecords

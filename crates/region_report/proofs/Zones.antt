@@ -20,6 +20,7 @@ use Rattle.report_spec.specs.declared.Origin.TheVariants.{Region}
 use Rattle.ftrace_spec.specs.declared.EntryForm.{EntryForm}
 use Rattle.report_spec.specs.Packed.{RecordShown, AreShown, records_traced}
 use Rattle.report_spec.specs.Doubts.{with_doubts}
+use Rattle.report_spec.specs.Mending.{records_mended}
 
 get-map : {X Y : Type 0} (f : X → Y) (xs : List X) (i : ℕ) (x : X) → slice_get xs i ≡ Some x
     → slice_get (map f xs) i ≡ Some (f x)
@@ -133,14 +134,15 @@ reads-next zones spans n old new z bytes to ez eb adds = record {
 pub report-is : (zones : List Zone) (names : List ℕ) (given : Option EntryForm) (image : List ℕ)
     (spans : List (List ℕ)) (r : Readings) (shown records : List RecordShown) → spans ≡ (cut_at zones image).spans
     → ReadsTo zones spans (length zones) r → AreShown zones names (records_traced zones given (saved r.logs)) shown
-    → records ≡ map (λ (s : RecordShown). with_doubts zones (saved r.logs) r.parts.items s) shown
+    → records ≡ records_mended r.parts.items
+    (map (λ (s : RecordShown). with_doubts zones (saved r.logs) r.parts.items s) shown)
     → IsReport zones names given image (record {
       origin = Region;
       logs = r.logs;
       parts = r.parts.items;
       records = records;
     })
-report-is zones names given image spans r shown records same to are doubted = record {
+report-is zones names given image spans r shown records same to are mended = record {
   of_region = refl;
   zones_same = to.zones_same;
   readings_len = to.readings_len;
@@ -149,5 +151,5 @@ report-is zones names given image spans r shown records same to are doubted = re
       (ap (λ (ss : List (List ℕ)). slice_get ss i) same ∙ span-got zones image i z ez);
   parts = λ i z ez. to.parts i z (zone_bytes z image) (slice_get_within zones i z ez) ez
       (ap (λ (ss : List (List ℕ)). slice_get ss i) same ∙ span-got zones image i z ez);
-  records = (shown, are, doubted);
+  records = (shown, are, mended);
 }

@@ -4,3 +4,4 @@ pub mod Tellers
 pub mod Counted
 pub mod Warned
 pub mod Machines
+pub mod Mendings

@@ -9,6 +9,7 @@ use Rattle.report_spec.specs.declared.Origin.TheVariants.{Region}
 use Rattle.ftrace_spec.specs.declared.EntryForm.{EntryForm}
 use Rattle.report_spec.specs.Packed.{RecordShown, AreShown, records_traced}
 use Rattle.report_spec.specs.Doubts.{with_doubts}
+use Rattle.report_spec.specs.Mending.{records_mended}
 use Rattle.region_report.specs.declared.report.Readings.{Readings}
 
 -- what a contract sees of a report: whose records it shows, the saved logs of all zones, how the parts of each zone
@@ -41,11 +42,12 @@ pub record ReadsTo (zones : List Zone) (spans : List (List ℕ)) (n : ℕ) (r : 
   pub parts : (i : ℕ) (z : Zone) (bytes : List ℕ) → i < n → slice_get zones i ≡ Some z
       → slice_get spans i ≡ Some bytes → slice_get r.parts.items i ≡ Some (part_states z bytes)
 
--- the records that the readings list, as they are shown, with what of each stands in bad blocks
-abbrev pub AreDoubted : List Zone → List ℕ → Option EntryForm → ReportHeld → Type 0
-AreDoubted zones names given r =
+-- the records that the readings list, as they are shown, with what of each stands in bad blocks, and the console and
+-- the newest dump mended by one another
+abbrev pub AreMended : List Zone → List ℕ → Option EntryForm → ReportHeld → Type 0
+AreMended zones names given r =
     (shown : List RecordShown) × AreShown zones names (records_traced zones given (saved r.logs)) shown
-    × (r.records ≡ map (λ (s : RecordShown). with_doubts zones (saved r.logs) r.parts s) shown)
+    × (r.records ≡ records_mended r.parts (map (λ (s : RecordShown). with_doubts zones (saved r.logs) r.parts s) shown))
 
 -- the report of an image by a layout, with the functions of a map and the form of the ftrace entries, if it is given:
 -- each zone's reading, how its parts read, and the records
@@ -59,4 +61,4 @@ pub record IsReport (zones : List Zone) (names : List ℕ) (given : Option Entry
       → slice_get r.logs.readings i ≡ Some (Some (zone_reading z (zone_bytes z image)))
   pub parts : (i : ℕ) (z : Zone) → slice_get zones i ≡ Some z
       → slice_get r.parts i ≡ Some (part_states z (zone_bytes z image))
-  pub records : AreDoubted zones names given r
+  pub records : AreMended zones names given r

@@ -4,6 +4,7 @@ ghost use Rattle.std.specs.Option.{option_copied};
 ghost use Rattle.report_spec.specs.Packed.{readable};
 ghost use Rattle.report_spec.specs.Deaths.{told_by, stamped, has_line, last_line, is_panic_beyond, tells_more, told_of};
 ghost use Rattle.report_spec.specs.Deaths.{dump_told as told_by_dump, others_told as told_by_others};
+ghost use Rattle.report_spec.specs.Deaths.{shared_time, death_time};
 ghost use Rattle.report_spec.specs.Deaths.{death_told, is_same_dump as is_dump_named, other_told as told_by_other};
 ghost use Rattle.region_report.specs.Tellers.{as_told, told_in};
 
@@ -12,7 +13,7 @@ use crate::shown::RecordReport;
 use death::{death, is_a, next_line, part};
 use death_spec::{Death, Line, Mark};
 use std::alloc::{AllocError, Global};
-use zone_spec::Name;
+use zone_spec::{Name, Time};
 
 /// A record, and why the machine died by what people read of it.
 #[derive(Clone, Copy)]
@@ -59,6 +60,29 @@ pub fn has_telling_line(entry: &RecordReport, told: &Telling<'_>) -> bool
     )
 }
 
+fn shared_time(told: &Telling<'_>, dump: Option<&RecordReport>) -> Option<Time>
+    ensures { result ≡ shared_time (as_told told.now) (option_copied dump.entry) }
+{
+    let dump = dump?;
+    if has_telling_line(dump, told) {
+        dump.time
+    } else {
+        None
+    }
+}
+
+/// When the machine died: the date of the record that tells, or, as a console has none, that of this dump if it has
+/// the telling line too.
+pub fn death_time(told: &Telling<'_>, dump: Option<&RecordReport>) -> Option<Time>
+    ensures { result ≡ death_time (as_told told.now) (option_copied dump.entry) }
+{
+    let teller: &RecordReport = told.teller;
+    match teller.time {
+        Some(time) => Some(time),
+        None => shared_time(told, dump),
+    }
+}
+
 fn last_line(death: Death) -> Line
     ensures { result ≡ last_line death death.second }
 {
@@ -103,7 +127,7 @@ pub fn death_told(records: &[RecordReport]) -> Option<Telling<'_>>
     told_of(told_by(newest_dump(records)), told_by(console(records)))
 }
 
-fn is_same_dump(name: Name, other: Name) -> bool
+pub fn is_same_dump(name: Name, other: Name) -> bool
     ensures { result ≡ is_dump_named name other }
 {
     match (name, other) {

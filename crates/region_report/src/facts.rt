@@ -48,14 +48,14 @@ pub fn uptime(text: &[u8], line: Line) -> &[u8]
     }
 }
 
-fn is_digit(b: u8) -> bool
+pub fn is_digit(b: u8) -> bool
     ensures { result ≡ is_digit_byte b }
 {
     b'0' <= b && b <= b'9'
 }
 
 /// One digit more, of which the last twelve are kept.
-fn with_digit(seconds: u64, b: u8) -> u64
+pub fn with_digit(seconds: u64, b: u8) -> u64
     requires { seconds < 1_000_000_000_000 }
     ensures digit { result ≡ with_digit_byte seconds b }
     ensures few { result < 1_000_000_000_000 }

@@ -8,6 +8,7 @@ ghost use Rattle.prz_read.specs.Saving.{AreNumbered};
 ghost use Rattle.region_report.specs.Reports.{SpansFit, ReadsTo, IsReport};
 
 use crate::doubts::records_doubted;
+use crate::mended::records_mended;
 use crate::shown::{RecordReport, shown_records};
 use crate::traced::records_traced;
 use ftrace_text::EntryForm;
@@ -155,7 +156,8 @@ pub fn report_of_zones(
     let Readings { logs, parts } = read_zones(alloc, zones, &spans)?;
     let held = records_traced(alloc, zones, given, &logs)?;
     let shown = shown_records(alloc, zones, symbols, held)?;
-    let records = records_doubted(alloc, zones, &logs, parts.as_slice(), shown)?;
+    let doubted = records_doubted(alloc, zones, &logs, parts.as_slice(), shown)?;
+    let records = records_mended(alloc, parts.as_slice(), doubted)?;
     Ok(Report {
         origin: Origin::Region,
         logs,

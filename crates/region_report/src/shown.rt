@@ -2,7 +2,8 @@
 ghost use Rattle.std.specs.Prelude.{◌≡◌, IfOk};
 ghost use Rattle.report_spec.specs.declared.Packing.TheVariants.{Part};
 ghost use Rattle.report_spec.specs.Packed.{most_of, as_it_stands, as_listed, as_traced, inflated, IsUnpacked, IsShown};
-ghost use Rattle.report_spec.specs.Packed.{AreShownBy, AreShown, readable, readable_of, said, said_of};
+ghost use Rattle.report_spec.specs.Packed.{AreShownBy, AreShown, readable, readable_of, said, said_of, mended_or};
+ghost use Rattle.report_spec.specs.Packed.{mended_said_or};
 ghost use Rattle.report_spec.specs.Newest.{has_entries};
 
 use crate::shifts::shift_in;
@@ -11,7 +12,7 @@ use inflate::{InflateError, Inflated, inflate};
 use outside::Bytes;
 use pmsg::{Entry, entries, shown_lines};
 use pstore_records::HeldRecord;
-use report_spec::{Packing, TextFault};
+use report_spec::{Mended, Packing, TextFault};
 use std::alloc::{AllocError, Global};
 use std::marker::Model;
 use symbols::Symbols;
@@ -32,6 +33,8 @@ pub struct RecordReport {
     pub entries: Vec<Entry>,
     /// The lines of the entries.
     pub lines: Bytes,
+    /// Its text, if doubtful bytes of it were taken from another record.
+    pub mended: Option<Mended<Bytes>>,
     /// Of each byte of its text whether it stands in a bad block, if any does.
     pub doubts: Vec<bool>,
 }
@@ -49,12 +52,13 @@ impl Model for RecordReport {
       packing = r.packing;
       entries = r.entries.items;
       lines = r.lines;
+      mended = r.mended;
       doubts = r.doubts.items;
     } };
 }
 
 impl RecordReport {
-    fn text(&self) -> &[u8]
+    fn held_text(&self) -> &[u8]
         ensures { result.now ≡ readable_of self.now.packing self.now.content }
     {
         match &self.packing {
@@ -63,7 +67,7 @@ impl RecordReport {
         }
     }
 
-    fn text_said(&self) -> &[u8]
+    fn held_said(&self) -> &[u8]
         ensures { result.now ≡ said_of self.now.packing self.now.notice self.now.content }
     {
         match &self.packing {
@@ -75,6 +79,28 @@ impl RecordReport {
         }
     }
 
+    fn text(&self) -> &[u8]
+        ensures { result.now ≡ mended_or self.now.mended (readable_of self.now.packing self.now.content) }
+    {
+        match &self.mended {
+            Some(mended) => mended.text.as_slice(),
+            None => self.held_text(),
+        }
+    }
+
+    fn text_said(&self) -> &[u8]
+        ensures { result.now ≡ mended_said_or self.now.mended self.now.notice
+            (said_of self.now.packing self.now.notice self.now.content) }
+    {
+        match &self.mended {
+            Some(mended) => {
+                let text = mended.text.as_slice();
+                &text[..text.len().saturating_sub(self.notice)]
+            }
+            None => self.held_said(),
+        }
+    }
+
     /// Whether it has entries of Android's log.
     pub fn has_entries(&self) -> bool
         ensures { result ≡ has_entries self.now.entries }
@@ -82,7 +108,8 @@ impl RecordReport {
         !self.entries.is_empty()
     }
 
-    /// What people read of it: the lines of its entries, else the text up to a fault, else the content.
+    /// What people read of it: the lines of its entries, else the text that another record mended, else the text up to
+    /// a fault, else the content.
     pub fn readable(&self) -> &[u8]
         ensures { result.now ≡ readable self.now }
     {
@@ -127,6 +154,7 @@ fn as_it_stands(alloc: Global, held: HeldRecord, packing: Packing<Bytes>) -> Rec
         packing,
         entries: Vec::new(alloc),
         lines: Bytes::from_vec(Vec::new(alloc)),
+        mended: None,
         doubts: Vec::new(alloc),
     }
 }
@@ -146,6 +174,7 @@ fn as_listed(alloc: Global, held: HeldRecord) -> Result<RecordReport, AllocError
         packing: Packing::Plain,
         entries,
         lines: Bytes::from_vec(lines),
+        mended: None,
         doubts: Vec::new(alloc),
     })
 }
@@ -173,6 +202,7 @@ fn inflated(
         packing: Packing::Whole { taken },
         entries: Vec::new(alloc),
         lines: Bytes::from_vec(Vec::new(alloc)),
+        mended: None,
         doubts: Vec::new(alloc),
     })
 }
@@ -221,6 +251,7 @@ fn as_traced(
         packing: Packing::Plain,
         entries: Vec::new(alloc),
         lines: Bytes::from_vec(Vec::new(alloc)),
+        mended: None,
         doubts: Vec::new(alloc),
     })
 }

@@ -22,11 +22,12 @@ use Rattle.zone_spec.specs.declared.PartState.{PartState}
 use Rattle.zone_spec.specs.declared.PartState.TheVariants.{Read, Bad}
 use Rattle.report_spec.specs.Escaped.{escaped, IsText}
 use Rattle.zone_spec.specs.PartStates.{PartStates}
+use Rattle.report_spec.specs.declared.Mended.{Mended}
 use Rattle.report_spec.specs.declared.Packing.{Packing}
 use Rattle.report_spec.specs.declared.Packing.TheVariants.{Plain, Whole, Part as PartOfText}
 use Rattle.report_spec.specs.Packed.{RecordShown, readable}
 use Rattle.report_spec.specs.Newest.{newest, console_of}
-use Rattle.report_spec.specs.Deaths.{DeathTold, death_told}
+use Rattle.report_spec.specs.Deaths.{DeathTold, death_told, death_time}
 use Rattle.report_spec.specs.Doubts.{doubts_between}
 use Rattle.report_spec.specs.Ends.{EndTold, end_told}
 use Rattle.report_spec.specs.Facts.{MachineTold, trimmed, uptime_of, machine_of, machine_ended, signature_told}
@@ -60,7 +61,7 @@ use Rattle.report_html.specs.Died.{second_parts, said_parts, why_parts, fact_par
 use Rattle.report_spec.specs.Excerpts.{place_above, below}
 use Rattle.report_html.specs.Died.{context_parts, rest_parts, rest_end, excerpt_parts, folded_parts, shown_opening}
 use Rattle.report_html.specs.Died.{before_folded, after_folded, around_parts}
-use Rattle.report_html.specs.Died.{console_words, teller_parts, death_parts, died_parts, second_bytes}
+use Rattle.report_html.specs.Died.{console_words, mended_parts, teller_parts, death_parts, died_parts, second_bytes}
 use Rattle.report_html.specs.Died.{said_bytes, why_bytes, context_bytes, rest_bytes, excerpt_bytes, around_bytes, death_bytes}
 use Rattle.report_html.specs.Died.{died_bytes}
 use Rattle.report_html.specs.Listed.{below_parts, telling_parts, above_parts, say_parts, first_parts, head_parts, unfolded}
@@ -432,13 +433,20 @@ of-before (Some t) =
     (and-of (head ++ time) line [] said (and-none head time [] refl (of-after t.teller.time)) refl)
     (of-context-below text t.death)) refl
 
-of-teller : (zones : List Saved) (name : Name) (words : List ℕ) → foreign_of (teller_parts zones name words) ≡ []
-of-teller zones name words =
-    let front : List Part = Words (codes "<tr><th scope=\"row\">Told by</th><td>") ∷ Link name ∷ Words words
-    ∷ Words READ.now ∷ [] in
+of-mended : (mended : Option (Mended (List ℕ))) → foreign_of (mended_parts mended) ≡ []
+of-mended None = refl
+of-mended (Some mended) = refl
+
+of-teller : (zones : List Saved) (name : Name) (mended : Option (Mended (List ℕ))) (words : List ℕ)
+    → foreign_of (teller_parts zones name mended words) ≡ []
+of-teller zones name mended words =
+    let front : List Part = Words (codes "<tr><th scope=\"row\">Told by</th><td>") ∷ Link name ∷ [] in
+    let more : List Part = Words words ∷ Words READ.now ∷ [] in
     let back : List Part = Words TOLD.now ∷ Named name ∷ Words (codes "</h2>\n") ∷ [] in
-    and-none (front ++ read_parts zones name) back []
-    (and-none front (read_parts zones name) [] refl (of-read zones name)) refl
+    and-none (front ++ mended_parts mended ++ more ++ read_parts zones name) back []
+    (and-none (front ++ mended_parts mended ++ more) (read_parts zones name) []
+    (and-none (front ++ mended_parts mended) more [] (and-none front (mended_parts mended) [] refl (of-mended mended))
+    refl) (of-read zones name)) refl
 
 of-death : (signature : List ℕ) (zones : List Saved) (records : List RecordShown) (t : DeathTold)
     → foreign_of (death_parts signature zones records t) ≡ death_bytes signature records t
@@ -446,15 +454,16 @@ of-death signature zones records t =
     let text : List ℕ = readable t.teller in
     let name : Name = t.teller.name in
     let words : List ℕ = console_words t (console_of records) in
-    let facts : List Part = when_parts t.teller.time ++ up_parts (uptime_of text t.death.telling)
+    let facts : List Part = when_parts (death_time t (newest records)) ++ up_parts (uptime_of text t.death.telling)
     ++ context_parts text t.death ++ bytes_parts (codes "Signature") signature
     ++ machine_parts (machine_of t (console_of records)) ++ before_parts (told_before name records) in
     let own : List (List ℕ) = some_bytes (uptime_of text t.death.telling) ++ context_bytes text t.death
     ++ some_bytes signature ++ machine_bytes (machine_of t (console_of records))
     ++ before_bytes (told_before name records) in
     let first : foreign_of facts ≡ own = simp (both, of-when, of-up, of-fact, of-bytes, of-before, append-nil) in
-    and-of (facts ++ teller_parts zones name words) (around_parts name t.teller.doubts text t.death) own (around_bytes text t.death)
-    (and-none facts (teller_parts zones name words) own first (of-teller zones name words))
+    let teller : List Part = teller_parts zones name t.teller.mended words in
+    and-of (facts ++ teller) (around_parts name t.teller.doubts text t.death) own (around_bytes text t.death)
+    (and-none facts teller own first (of-teller zones name t.teller.mended words))
     (of-around name t.teller.doubts text t.death)
 
 of-ending : (zones : List Saved) (t : Option EndTold) → foreign_of (ending_parts zones t) ≡ end_bytes t

@@ -7,9 +7,10 @@ use Rattle.death_spec.specs.declared.Line.{Line}
 use Rattle.death_spec.specs.declared.Span.{Span}
 use Rattle.death_spec.specs.declared.Death.{Death}
 use Rattle.death_spec.specs.Lines.{part}
+use Rattle.report_spec.specs.declared.Mended.{Mended}
 use Rattle.report_spec.specs.Packed.{RecordShown, readable}
-use Rattle.report_spec.specs.Newest.{is_console, console_of}
-use Rattle.report_spec.specs.Deaths.{DeathTold, stamped, has_line}
+use Rattle.report_spec.specs.Newest.{newest, is_console, console_of}
+use Rattle.report_spec.specs.Deaths.{DeathTold, stamped, has_line, death_time}
 use Rattle.report_spec.specs.Doubts.{doubts_between}
 use Rattle.report_spec.specs.Ends.{end_told}
 use Rattle.report_spec.specs.Facts.{uptime_of, machine_of}
@@ -121,19 +122,27 @@ console_words t (Some console) =
     if is_console t.teller.name then []
     else shared_words (has_line (readable console) (stamped (readable t.teller) t.death.telling))
 
--- which record tells: a link, whether the console tells the same, how it read, and the heading of the lines
-abbrev pub teller_parts : List Saved → Name → List ℕ → List Part
-teller_parts zones name words =
-    Words (codes "<tr><th scope=\"row\">Told by</th><td>") ∷ Link name ∷ Words words ∷ Words READ.now ∷ []
-    ++ read_parts zones name ++ Words TOLD.now ∷ Named name ∷ Words (codes "</h2>\n") ∷ []
+-- by which record it is mended
+abbrev pub mended_parts : Option (Mended (List ℕ)) → List Part
+mended_parts None = []
+mended_parts (Some mended) =
+    Words (codes ", with bytes of ") ∷ Link mended.by ∷ Words (codes " where its own are bad") ∷ []
+
+-- which record tells: a link, by which it is mended, whether the console tells the same, how it read, and the heading
+-- of the lines
+abbrev pub teller_parts : List Saved → Name → Option (Mended (List ℕ)) → List ℕ → List Part
+teller_parts zones name mended words =
+    Words (codes "<tr><th scope=\"row\">Told by</th><td>") ∷ Link name ∷ [] ++ mended_parts mended
+    ++ Words words ∷ Words READ.now ∷ [] ++ read_parts zones name ++ Words TOLD.now ∷ Named name
+    ∷ Words (codes "</h2>\n") ∷ []
 
 -- when, what is known, its signature, the machine, what was before it, by which record of these zones, and the lines
 abbrev pub death_parts : List ℕ → List Saved → List RecordShown → DeathTold → List Part
 death_parts signature zones records t =
-    when_parts t.teller.time ++ up_parts (uptime_of (readable t.teller) t.death.telling)
+    when_parts (death_time t (newest records)) ++ up_parts (uptime_of (readable t.teller) t.death.telling)
     ++ context_parts (readable t.teller) t.death ++ bytes_parts (codes "Signature") signature
     ++ machine_parts (machine_of t (console_of records)) ++ before_parts (told_before t.teller.name records)
-    ++ teller_parts zones t.teller.name (console_words t (console_of records))
+    ++ teller_parts zones t.teller.name t.teller.mended (console_words t (console_of records))
     ++ around_parts t.teller.name t.teller.doubts (readable t.teller) t.death
 
 -- of the records, by the one that tells; or by the one whose end is told

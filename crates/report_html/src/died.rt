@@ -9,7 +9,7 @@ ghost use Rattle.report_html.specs.Died.{second_parts, said_parts, why_parts, fa
 ghost use Rattle.report_html.specs.Died.{context_parts, log_parts};
 ghost use Rattle.report_html.specs.Died.{marked_parts, rest_parts, rest_end, excerpt_parts, folded_parts, before_folded};
 ghost use Rattle.report_html.specs.Died.{after_folded, shown_opening, around_parts, shared_words, console_words};
-ghost use Rattle.report_html.specs.Died.{teller_parts, death_parts, died_parts};
+ghost use Rattle.report_html.specs.Died.{mended_parts, teller_parts, death_parts, died_parts};
 ghost use Rattle.report_html.specs.Escaping.{AreDeathBytes, AllTellBytes};
 
 use crate::before::add_before;
@@ -21,10 +21,11 @@ use crate::reads::add_read;
 use crate::words::{NO_CPU, NO_FUNCTION, READ, TOLD};
 use death::part;
 use death_spec::{Death, Line, Span};
+use outside::Bytes;
 use prz_read::Logs;
 use region_report::{
-    RecordReport, Telling, below, console, doubts_between, end_told, has_telling_line,
-    machine_told, place_above, uptime,
+    Mended, RecordReport, Telling, below, console, death_time, doubts_between, end_told,
+    has_telling_line, machine_told, newest_dump, place_above, uptime,
 };
 use std::alloc::AllocError;
 use zone_spec::Name;
@@ -327,25 +328,44 @@ fn console_text(told: &Telling<'_>, console: Option<&RecordReport>) -> &'static 
     shared_text(has_telling_line(console, told))
 }
 
-/// Adds which record tells, these words, and how it read.
+/// Adds by which record a text is mended.
+fn add_mended(pieces: &mut Vec<Piece<'_>>, mended: Option<&Mended<Bytes>>) -> Result<(), AllocError>
+    ensures { OnOk result (parts pieces.new.items
+        ≡ parts pieces.old.items ++ mended_parts (option_copied mended.entry)) }
+{
+    match mended {
+        Some(mended) => add(
+            pieces,
+            &[
+                Piece::Own(", with bytes of "),
+                Piece::Link(mended.by),
+                Piece::Own(" where its own are bad"),
+            ],
+        ),
+        None => Ok(()),
+    }
+}
+
+/// Adds which record tells, by which it is mended, these words, and how it read.
 fn add_teller(
     pieces: &mut Vec<Piece<'_>>,
     logs: &Logs,
     name: Name,
+    mended: Option<&Mended<Bytes>>,
     words: &'static str,
 ) -> Result<(), AllocError>
-    ensures { OnOk result (parts pieces.new.items
-        ≡ parts pieces.old.items ++ teller_parts (saved logs.now) name words.entry.now) }
+    ensures { OnOk result (parts pieces.new.items ≡ parts pieces.old.items
+        ++ teller_parts (saved logs.now) name (option_copied mended.entry) words.entry.now) }
 {
     add(
         pieces,
         &[
             Piece::Own("<tr><th scope=\"row\">Told by</th><td>"),
             Piece::Link(name),
-            Piece::Own(words),
-            Piece::Own(READ),
         ],
     )?;
+    add_mended(pieces, mended)?;
+    add(pieces, &[Piece::Own(words), Piece::Own(READ)])?;
     add_read(pieces, logs, name)?;
     add(
         pieces,
@@ -367,14 +387,14 @@ fn add_death<'a>(
 {
     let teller: &'a RecordReport = told.teller;
     let text = teller.readable();
-    add_when(pieces, teller.time)?;
+    add_when(pieces, death_time(told, newest_dump(records)))?;
     add_up(pieces, uptime(text, told.death.telling))?;
     add_context(pieces, text, told.death)?;
     add_bytes(pieces, "Signature", signature)?;
     add_machine(pieces, machine_told(told, console(records)))?;
     add_before(pieces, teller.name, records)?;
     let words = console_text(told, console(records));
-    add_teller(pieces, logs, teller.name, words)?;
+    add_teller(pieces, logs, teller.name, teller.mended.as_ref(), words)?;
     add_around(
         pieces,
         teller.name,

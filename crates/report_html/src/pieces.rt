@@ -46,11 +46,30 @@ fn push_piece(out: &mut Vec<u8>, origin: Origin, piece: Piece<'_>) -> Result<(),
     }
 }
 
+/// About as many bytes as a piece will take.
+fn piece_len(piece: Piece<'_>) -> usize {
+    match piece {
+        Piece::Own(text) => text.len(),
+        Piece::Foreign(bytes) | Piece::Log(_, bytes) => bytes.len().saturating_add(bytes.len() / 8),
+        Piece::Number(_) | Piece::Moment(_) | Piece::Long(_) | Piece::Named(_) | Piece::Link(_) =>
+            16,
+    }
+}
+
+/// About as many bytes as the pieces will take.
+fn expected_len(pieces: &[Piece<'_>]) -> usize {
+    let mut len = 0usize;
+    for piece in pieces {
+        len = len.saturating_add(piece_len(*piece));
+    }
+    len
+}
+
 /// The text of the pieces, end to end, with the names that records have there.
 pub fn render(alloc: Global, origin: Origin, pieces: &[Piece<'_>]) -> Result<Vec<u8>, AllocError>
     ensures { IfOk result (λ text. text.items ≡ parts_text origin (parts pieces.now)) }
 {
-    let mut out = Vec::new(alloc);
+    let mut out = Vec::with_capacity(alloc, expected_len(pieces))?;
     for piece in pieces {
         push_piece(&mut out, origin, *piece)?;
     }

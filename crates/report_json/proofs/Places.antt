@@ -1,6 +1,6 @@
 -- The values of the zones, one after another
 use Rattle.std.proofs.Common.{◌≡◌, ℕ, zero, suc, ◌+◌, List, [], ◌∷◌, ◌++◌, length, slice_get, sym, ap, ◌∙◌, subst}
-use Rattle.std.proofs.Common.{arith, inl, inr, Option, Some, length-append, Result, Ok, Err, IfOk}
+use Rattle.std.proofs.Common.{arith, inl, inr, Option, Some, length-append, Result, Ok, Err, OnOk}
 use Rattle.std.specs.List.{zip}
 use Rattle.std.specs.Option.{option_map}
 use Rattle.std.proofs.lemmas.Bool.{cases_lt}
@@ -39,12 +39,7 @@ zones-next zones readings parts n values more d are is same = record {
   ];
 }
 
--- what follows of a value follows where there is one
-pub if_ok : {A E : Type 0} (r : Result A E) (P Q : A → Type 0) → ((a : A) → P a → Q a) → IfOk r P → IfOk r Q
-if_ok (Ok a) P Q h p = h a p
-if_ok (Err e) P Q h p = p
-
-pub if_both : {A E : Type 0} (r : Result A E) (P Q R : A → Type 0) → ((a : A) → P a → Q a → R a) → IfOk r P
-    → IfOk r Q → IfOk r R
-if_both (Ok a) P Q R h p q = h a p q
-if_both (Err e) P Q R h p q = p
+-- what follows of success follows where there is one
+pub on_ok : {A E : Type 0} (r : Result A E) (P Q : Type 0) → (P → Q) → OnOk r P → OnOk r Q
+on_ok (Ok a) P Q h p = h p
+on_ok (Err e) P Q h p = p

@@ -1,2 +1,3 @@
 pub mod Schema
-pub mod Answering
+pub mod Tokens
+pub mod PutZones

@@ -40,6 +40,7 @@ use Rattle.zone_spec.specs.PartStates.{PartStates}
 use Rattle.psz_spec.specs.declared.Sizes.{Sizes}
 use Rattle.report_spec.specs.declared.Division.{Division}
 use Rattle.report_spec.specs.declared.Division.TheVariants.{Region, Storage}
+use Rattle.report_spec.specs.declared.Mended.{Mended}
 use Rattle.report_spec.specs.declared.Origin.{Origin}
 use Rattle.report_spec.specs.Origins.{name_in}
 use Rattle.report_spec.specs.declared.Packing.{Packing}
@@ -272,22 +273,30 @@ abbrev pub bytes_data : List ℕ → Data
 bytes_data [] = null
 bytes_data (b ∷ bs) = front_data (b ∷ bs)
 
--- why the machine died by a record's text, with the record's name and the call trace
-abbrev pub death_with : Origin → List ℕ → Name → Death → Data → Data
-death_with origin text name death trace = object (
+-- the record that a record is mended by
+abbrev pub mended_data : Origin → Option (Mended (List ℕ)) → Data
+mended_data origin None = null
+mended_data origin (Some mended) = string (name_in origin mended.by)
+
+-- why the machine died by a record's text, with the record's name, by which record it is mended, and the call trace
+abbrev pub death_with : Origin → List ℕ → Name → Data → Death → Data → Data
+death_with origin text name mended_by death trace = object (
     member (codes "cpu") (named_data text death.cpu) (
     member (codes "function") (named_data text death.function) (
     member (codes "is_next") (boolean death.is_next) (
     member (codes "kernel") (named_data text death.kernel) (
     member (codes "line") (said_data text death.telling) (
+    member (codes "mended_by") mended_by (
     member (codes "record") (string (name_in origin name)) (
     member (codes "second") (second_data text death.second) (
     member (codes "task") (named_data text death.task) (
     member (codes "trace") trace (
-    member (codes "uptime") (bytes_data (uptime_of text death.telling)) no_members))))))))))
+    member (codes "uptime") (bytes_data (uptime_of text death.telling)) no_members)))))))))))
 
 abbrev pub told_data : Origin → DeathTold → Data
-told_data origin t = death_with origin (readable t.teller) t.teller.name t.death (trace_data (readable t.teller))
+told_data origin t =
+    death_with origin (readable t.teller) t.teller.name (mended_data origin t.teller.mended) t.death
+    (trace_data (readable t.teller))
 
 -- null where no record tells
 abbrev pub death_data : Origin → Option DeathTold → Data

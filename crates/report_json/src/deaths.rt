@@ -1,148 +1,158 @@
-// The value of why the machine died.
-ghost use Rattle.std.specs.Prelude.{◌≡◌, map, IfOk};
-ghost use Rattle.serde_json.specs.View.{view};
-ghost use Rattle.report_spec.specs.Origins.{name_in};
-ghost use Rattle.serde_json.specs.Data.{string};
+// Why the machine died, put onto a line.
+ghost use Rattle.std.specs.Prelude.{◌≡◌, ◌∷◌, map, codes, OnOk};
+ghost use Rattle.std.specs.Option.{option_copied};
+ghost use Rattle.json.specs.Token.{key};
+ghost use Rattle.report_spec.specs.Facts.{uptime_of};
 ghost use Rattle.region_report.specs.Tellers.{as_told, told_in};
-ghost use Rattle.report_json.specs.Schema.{front_data, span_data, named_data, said_data, second_data, trace_data};
-ghost use Rattle.report_json.specs.Schema.{bytes_data, death_with, told_data, death_data};
+ghost use Rattle.report_json.specs.Schema.{span_data, named_data, said_data, second_data, trace_data};
+ghost use Rattle.report_json.specs.Schema.{bytes_data, mended_data, death_with, told_data, death_data};
+ghost use Rattle.report_json.specs.Tokens.{onto, all_onto};
 
-use crate::records::utf8_front;
-use arrayvec::ArrayString;
+use crate::records::{put_front, put_name, utf8_front};
+use crate::tokens::Line;
 use death::{part, trace};
-use death_spec::{Death, Line, Span};
-use region_report::{Origin, RecordReport, Telling, file_name, uptime};
-use serde_json::{Value, json};
+use death_spec::{Death, Line as LogLine, Span};
+use outside::Bytes;
+use region_report::{Mended, Origin, RecordReport, Telling, uptime};
 use std::alloc::{AllocError, Global};
 use zone_spec::Name;
 
-fn front_value(alloc: Global, bytes: &[u8]) -> Result<Value, AllocError>
-    ensures { IfOk result (λ v. view v ≡ front_data bytes.now) }
-{
-    Value::try_from_str(alloc, utf8_front(bytes))
-}
-
-fn span_value(alloc: Global, text: &[u8], span: Span) -> Result<Value, AllocError>
-    ensures { IfOk result (λ v. view v ≡ span_data text.now span) }
-{
-    front_value(alloc, part(text, span.start, span.end))
-}
-
-fn named_value(alloc: Global, text: &[u8], span: Option<Span>) -> Result<Value, AllocError>
-    ensures { IfOk result (λ v. view v ≡ named_data text.now span) }
+fn put_named(line: &mut Line, name: &str, text: &[u8], span: Option<Span>) -> Result<(), AllocError>
+    ensures { OnOk result (line.new ≡ onto (named_data text.now span) (key name.now ∷ line.old)) }
 {
     match span {
-        Some(span) => span_value(alloc, text, span),
-        None => Ok(Value::Null),
+        Some(span) => put_front(line, name, part(text, span.start, span.end)),
+        None => line.none(name),
     }
 }
 
-/// What a line says.
-pub fn said_value(alloc: Global, text: &[u8], line: Line) -> Result<Value, AllocError>
-    ensures { IfOk result (λ v. view v ≡ said_data text.now line) }
+/// A member that is what a line of a log says.
+pub fn put_said(line: &mut Line, name: &str, text: &[u8], said: LogLine) -> Result<(), AllocError>
+    ensures { OnOk result (line.new ≡ onto (said_data text.now said) (key name.now ∷ line.old)) }
 {
-    front_value(alloc, part(text, line.text, line.end))
+    put_front(line, name, part(text, said.text, said.end))
 }
 
-fn second_value(alloc: Global, text: &[u8], line: Option<Line>) -> Result<Value, AllocError>
-    ensures { IfOk result (λ v. view v ≡ second_data text.now line) }
+fn put_second(line: &mut Line, text: &[u8], second: Option<LogLine>) -> Result<(), AllocError>
+    ensures { OnOk result (line.new ≡ onto (second_data text.now second) (key (codes "second") ∷ line.old)) }
 {
-    match line {
-        Some(line) => said_value(alloc, text, line),
-        None => Ok(Value::Null),
+    match second {
+        Some(second) => put_said(line, "second", text, second),
+        None => line.none("second"),
     }
 }
 
-fn span_values(alloc: Global, text: &[u8], spans: &[Span]) -> Result<Vec<Value>, AllocError>
-    ensures { IfOk result (λ values. map view values.items ≡ map (span_data text.now) spans.now) }
+fn put_spans(line: &mut Line, text: &[u8], spans: &[Span]) -> Result<(), AllocError>
+    ensures { OnOk result (line.new ≡ all_onto (map (span_data text.now) spans.now) line.old) }
 {
-    let mut values = Vec::with_capacity(alloc, spans.len())?;
     for span in spans {
-        values.push(span_value(alloc, text, *span)?)?;
+        line.string(utf8_front(part(text, span.start, span.end)))?;
     }
-    Ok(values)
+    Ok(())
 }
 
 /// The functions of the call trace.
-fn trace_value(alloc: Global, text: &[u8]) -> Result<Value, AllocError>
-    ensures { IfOk result (λ v. view v ≡ trace_data text.now) }
+#[tactic(auto, using(crate::proofs::Onto::arrays))]
+fn put_trace(alloc: Global, line: &mut Line, text: &[u8]) -> Result<(), AllocError>
+    ensures { OnOk result (line.new ≡ onto (trace_data text.now) (key (codes "trace") ∷ line.old)) }
 {
     let spans = trace(alloc, text)?;
-    let names = span_values(alloc, text, spans.as_slice())?;
-    Ok(Value::Array(names))
+    line.key("trace")?;
+    line.begin_array()?;
+    put_spans(line, text, spans.as_slice())?;
+    line.end_array()
 }
 
-/// Bytes as far as they are UTF-8, or null if there are none.
-pub fn bytes_value(alloc: Global, bytes: &[u8]) -> Result<Value, AllocError>
-    ensures { IfOk result (λ v. view v ≡ bytes_data bytes.now) }
+/// A member that is bytes as far as they are UTF-8, or null if there are none.
+pub fn put_bytes(line: &mut Line, name: &str, bytes: &[u8]) -> Result<(), AllocError>
+    ensures { OnOk result (line.new ≡ onto (bytes_data bytes.now) (key name.now ∷ line.old)) }
 {
     if bytes.is_empty() {
-        return Ok(Value::Null);
+        return line.none(name);
     }
-    front_value(alloc, bytes)
+    put_front(line, name, bytes)
 }
 
-/// The name of a record.
-pub fn name_value(alloc: Global, origin: Origin, name: Name) -> Result<Value, AllocError>
-    ensures { IfOk result (λ v. view v ≡ string (name_in origin name)) }
+fn put_uptime(line: &mut Line, text: &[u8], telling: LogLine) -> Result<(), AllocError>
+    ensures { OnOk result (line.new ≡ onto (bytes_data (uptime_of text.now telling)) (key (codes "uptime") ∷ line.old)) }
 {
-    let mut text = ArrayString::new();
-    file_name(origin, name, &mut text);
-    Value::try_from_str(alloc, text.as_str())
+    put_bytes(line, "uptime", uptime(text, telling))
 }
 
-fn death_with(
+fn put_mended(
+    line: &mut Line,
+    origin: Origin,
+    mended: Option<&Mended<Bytes>>,
+) -> Result<(), AllocError>
+    ensures { OnOk result (line.new
+        ≡ onto (mended_data origin (option_copied mended.entry)) (key (codes "mended_by") ∷ line.old)) }
+{
+    match mended {
+        Some(mended) => put_name(line, "mended_by", origin, mended.by),
+        None => line.none("mended_by"),
+    }
+}
+
+fn put_told(
     alloc: Global,
+    line: &mut Line,
     origin: Origin,
     text: &[u8],
     name: Name,
+    mended: Option<&Mended<Bytes>>,
     death: Death,
-    trace: Value,
-) -> Result<Value, AllocError>
-    ensures { IfOk result (λ v. view v ≡ death_with origin text.now name death (view trace)) }
+) -> Result<(), AllocError>
+    ensures { OnOk result (line.new ≡ onto (death_with origin text.now name
+        (mended_data origin (option_copied mended.entry)) death (trace_data text.now)) line.old) }
 {
-    let record_name = name_value(alloc, origin, name)?;
-    let cpu = named_value(alloc, text, death.cpu)?;
-    let function = named_value(alloc, text, death.function)?;
-    let kernel = named_value(alloc, text, death.kernel)?;
-    let line = said_value(alloc, text, death.telling)?;
-    let second = second_value(alloc, text, death.second)?;
-    let task = named_value(alloc, text, death.task)?;
-    let uptime = bytes_value(alloc, uptime(text, death.telling))?;
-    json!(in alloc; {
-        "uptime": uptime,
-        "trace": trace,
-        "task": task,
-        "second": second,
-        "record": record_name,
-        "line": line,
-        "kernel": kernel,
-        "is_next": death.is_next,
-        "function": function,
-        "cpu": cpu
-    })
+    line.begin_object()?;
+    put_named(line, "cpu", text, death.cpu)?;
+    put_named(line, "function", text, death.function)?;
+    line.flag("is_next", death.is_next)?;
+    put_named(line, "kernel", text, death.kernel)?;
+    put_said(line, "line", text, death.telling)?;
+    put_mended(line, origin, mended)?;
+    put_name(line, "record", origin, name)?;
+    put_second(line, text, death.second)?;
+    put_named(line, "task", text, death.task)?;
+    put_trace(alloc, line, text)?;
+    put_uptime(line, text, death.telling)?;
+    line.end_object()
 }
 
-fn told_value(alloc: Global, origin: Origin, told: &Telling<'_>) -> Result<Value, AllocError>
-    ensures { IfOk result (λ v. view v ≡ told_data origin (as_told told.now)) }
+fn put_telling(
+    alloc: Global,
+    line: &mut Line,
+    origin: Origin,
+    told: &Telling<'_>,
+) -> Result<(), AllocError>
+    ensures { OnOk result (line.new ≡ onto (told_data origin (as_told told.now)) line.old) }
 {
     let teller: &RecordReport = told.teller;
-    let text = teller.readable();
-    let trace = trace_value(alloc, text)?;
-    death_with(alloc, origin, text, teller.name, told.death, trace)
+    put_told(
+        alloc,
+        line,
+        origin,
+        teller.readable(),
+        teller.name,
+        teller.mended.as_ref(),
+        told.death,
+    )
 }
 
 /// Why the machine died, as one of the records tells it, or null. Text that is no UTF-8 is cut before the first byte
 /// that isn't.
-pub fn death_value(
+pub fn put_death(
     alloc: Global,
+    line: &mut Line,
     origin: Origin,
     told: Option<Telling<'_>>,
-) -> Result<Value, AllocError>
-    ensures { IfOk result (λ v. view v ≡ death_data origin (told_in told.entry)) }
+) -> Result<(), AllocError>
+    ensures { OnOk result (line.new ≡ onto (death_data origin (told_in told.entry)) (key (codes "death") ∷ line.old)) }
 {
+    line.key("death")?;
     match told {
-        Some(told) => told_value(alloc, origin, &told),
-        None => Ok(Value::Null),
+        Some(told) => put_telling(alloc, line, origin, &told),
+        None => line.null(),
     }
 }

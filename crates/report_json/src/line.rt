@@ -1,78 +1,35 @@
 // The line of a report.
-ghost use Rattle.std.specs.Prelude.{◌≡◌, length, string_bytes, IfOk};
-ghost use Rattle.serde_json.specs.View.{view};
+ghost use Rattle.std.specs.Prelude.{◌≡◌, ◌∷◌, length, codes, IfOk, OnOk};
+ghost use Rattle.json.specs.Token.{key};
 ghost use Rattle.report_spec.specs.Deaths.{death_told as death_of};
-ghost use Rattle.report_json.specs.Schema.{answers_by, line_with, IsLine};
-ghost use Rattle.report_json.specs.Answering.{answers_in};
+ghost use Rattle.report_json.specs.Schema.{IsLine};
 
-use crate::deaths::{bytes_value, death_value};
-use crate::ends::end_value;
-use crate::machines::{machine_value, signature_value};
-use crate::records::record_values;
-use crate::warned::warnings_value;
-use crate::zones::{division_value, zone_values};
-use region_report::{Division, Report, death_told};
-use serde_json::{Value, json};
+use crate::deaths::{put_bytes, put_death};
+use crate::ends::put_end;
+use crate::machines::{put_machine, put_signature};
+use crate::records::put_records;
+use crate::tokens::Line;
+use crate::warned::put_warnings;
+use crate::zones::{put_division, put_zones};
+use region_report::{Division, RecordReport, Report, death_told};
 use std::alloc::{AllocError, Global};
 use zone_spec::Zone;
 
 /// The number of the schema that docs/REPORT.md describes.
-const SCHEMA: u32 = 2;
+const SCHEMA: u64 = 2;
 
-/// What a report says of a death.
-#[derive(Drop)]
-struct Answer {
-    death: Value,
-    end: Value,
-    machine: Value,
-    signature: Value,
-    warnings: Value,
-}
+/// Room for the members of a record or a zone, and for the states of most blocks.
+const MEMBERS: usize = 2048;
 
-fn answer_of(alloc: Global, report: &Report) -> Result<Answer, AllocError>
-    ensures { IfOk result (λ a. answers_in a ≡ answers_by report.now (death_of report.now.records)) }
-{
-    let records = report.records();
-    let told = death_told(records);
-    let death = death_value(alloc, report.origin(), told)?;
-    let end = end_value(alloc, report.origin(), records, told)?;
-    let machine = machine_value(alloc, records, told)?;
-    let signature = signature_value(alloc, told)?;
-    let warnings = warnings_value(alloc, report, told)?;
-    Ok(Answer {
-        death,
-        end,
-        machine,
-        signature,
-        warnings,
-    })
-}
-
-fn line_value(
-    alloc: Global,
-    answer: Answer,
-    better: Value,
-    path: &str,
-    parameters: Value,
-    records: Value,
-    zones: Value,
-) -> Result<Value, AllocError>
-    ensures { IfOk result (λ v. view v ≡ line_with (answers_in answer) (view better) path.now (view parameters) (view records)
-        (view zones)) }
-{
-    json!(in alloc; {
-        "zones": zones,
-        "warnings": answer.warnings,
-        "signature": answer.signature,
-        "schema": SCHEMA,
-        "records": records,
-        "path": path,
-        "parameters": parameters,
-        "machine": answer.machine,
-        "end": answer.end,
-        "death": answer.death,
-        "better": better
-    })
+/// About as many bytes as the line will have.
+fn expected_len(zones: &[Zone], records: &[RecordReport]) -> usize {
+    let mut len = zones.len().saturating_add(1).saturating_mul(MEMBERS);
+    for held in records {
+        let content = held.content.len();
+        // A text has some escapes.
+        len = len.saturating_add(content).saturating_add(content / 16);
+    }
+    len
 }
 
 /// The report of the image at `path` as JSON, without a newline. `better` are the words of a layout that explains the
@@ -84,18 +41,26 @@ pub fn json(
     zones: &[Zone],
     report: &Report,
     better: &str,
-) -> Result<String, AllocError>
+) -> Result<Vec<u8>, AllocError>
     requires readings { length report.now.logs.readings ≡ length zones.now }
     requires parts { length report.now.parts ≡ length zones.now }
-    ensures { IfOk result (λ text. IsLine path.now division.now zones.now better.now report.now (string_bytes text)) }
+    ensures { IfOk result (λ text. IsLine path.now division.now zones.now better.now report.now text.items) }
 {
-    let parameters = division_value(alloc, division)?;
-    let record_list = record_values(alloc, report.origin(), report.logs(), report.records())?;
-    let records = Value::from(record_list);
-    let zone_list = zone_values(alloc, zones, report.logs(), report.parts())?;
-    let zones = Value::from(zone_list);
-    let answer = answer_of(alloc, report)?;
-    let better = bytes_value(alloc, better.as_bytes())?;
-    let value = line_value(alloc, answer, better, path, parameters, records, zones)?;
-    value.to_string(alloc)
+    let records = report.records();
+    let told = death_told(records);
+    let mut line = Line::with_capacity(alloc, expected_len(zones, records))?;
+    line.begin_object()?;
+    put_bytes(&mut line, "better", better.as_bytes())?;
+    put_death(alloc, &mut line, report.origin(), told)?;
+    put_end(&mut line, report.origin(), records, told)?;
+    put_machine(&mut line, records, told)?;
+    put_division(&mut line, division)?;
+    line.text("path", path)?;
+    put_records(alloc, &mut line, report.origin(), report.logs(), records)?;
+    line.count("schema", SCHEMA)?;
+    put_signature(alloc, &mut line, told)?;
+    put_warnings(alloc, &mut line, report, told)?;
+    put_zones(&mut line, zones, report.logs(), report.parts())?;
+    line.end_object()?;
+    Ok(line.finish())
 }

@@ -1,63 +1,66 @@
-// The values of what a log says of the machine, and of the signature.
-ghost use Rattle.std.specs.Prelude.{◌≡◌, IfOk};
-ghost use Rattle.serde_json.specs.View.{view};
+// What a log says of the machine, and the signature, put onto a line.
+ghost use Rattle.std.specs.Prelude.{◌≡◌, ◌∷◌, codes, OnOk};
+ghost use Rattle.json.specs.Token.{key};
 ghost use Rattle.report_spec.specs.Facts.{signature_told};
 ghost use Rattle.region_report.specs.Machines.{as_machine};
 ghost use Rattle.region_report.specs.Tellers.{told_in, end_in};
 ghost use Rattle.report_json.specs.Schema.{bytes_data, machine_with, ended_machine, machine_data};
+ghost use Rattle.report_json.specs.Tokens.{onto};
 
-use crate::deaths::bytes_value;
+use crate::deaths::put_bytes;
+use crate::tokens::Line;
 use region_report::{
     End, Machine, RecordReport, Telling, console, end_told, machine_ended, machine_told,
     signature_of,
 };
-use serde_json::{Value, json};
 use std::alloc::{AllocError, Global};
 
-fn machine_with(alloc: Global, machine: Machine<'_>) -> Result<Value, AllocError>
-    ensures { IfOk result (λ v. view v ≡ machine_with (as_machine machine.entry)) }
+fn put_with(line: &mut Line, machine: Machine<'_>) -> Result<(), AllocError>
+    ensures { OnOk result (line.new ≡ onto (machine_with (as_machine machine.entry)) line.old) }
 {
-    let cmdline = bytes_value(alloc, machine.cmdline)?;
-    let hardware = bytes_value(alloc, machine.hardware)?;
-    let offset = bytes_value(alloc, machine.offset)?;
-    let modules = bytes_value(alloc, machine.modules)?;
-    let version = bytes_value(alloc, machine.version)?;
-    json!(in alloc; {
-        "cmdline": cmdline,
-        "hardware": hardware,
-        "kernel_offset": offset,
-        "modules": modules,
-        "version": version
-    })
+    line.begin_object()?;
+    put_bytes(line, "cmdline", machine.cmdline)?;
+    put_bytes(line, "hardware", machine.hardware)?;
+    put_bytes(line, "kernel_offset", machine.offset)?;
+    put_bytes(line, "modules", machine.modules)?;
+    put_bytes(line, "version", machine.version)?;
+    line.end_object()
 }
 
-fn ended_machine(alloc: Global, end: Option<End<'_>>) -> Result<Value, AllocError>
-    ensures { IfOk result (λ v. view v ≡ ended_machine (end_in end.entry)) }
+fn put_ended(line: &mut Line, end: Option<End<'_>>) -> Result<(), AllocError>
+    ensures { OnOk result (line.new ≡ onto (ended_machine (end_in end.entry)) line.old) }
 {
     match end {
-        Some(end) => machine_with(alloc, machine_ended(&end)),
-        None => Ok(Value::Null),
+        Some(end) => put_with(line, machine_ended(&end)),
+        None => line.null(),
     }
 }
 
 /// What the log of a death, or of an end without one, says of the machine, or null.
-pub fn machine_value(
-    alloc: Global,
+pub fn put_machine(
+    line: &mut Line,
     records: &[RecordReport],
     told: Option<Telling<'_>>,
-) -> Result<Value, AllocError>
-    ensures { IfOk result (λ v. view v ≡ machine_data records.now (told_in told.entry)) }
+) -> Result<(), AllocError>
+    ensures { OnOk result (line.new
+        ≡ onto (machine_data records.now (told_in told.entry)) (key (codes "machine") ∷ line.old)) }
 {
+    line.key("machine")?;
     match told {
-        Some(told) => machine_with(alloc, machine_told(&told, console(records))),
-        None => ended_machine(alloc, end_told(records)),
+        Some(told) => put_with(line, machine_told(&told, console(records))),
+        None => put_ended(line, end_told(records)),
     }
 }
 
 /// The signature of a death, or null.
-pub fn signature_value(alloc: Global, told: Option<Telling<'_>>) -> Result<Value, AllocError>
-    ensures { IfOk result (λ v. view v ≡ bytes_data (signature_told (told_in told.entry))) }
+pub fn put_signature(
+    alloc: Global,
+    line: &mut Line,
+    told: Option<Telling<'_>>,
+) -> Result<(), AllocError>
+    ensures { OnOk result (line.new
+        ≡ onto (bytes_data (signature_told (told_in told.entry))) (key (codes "signature") ∷ line.old)) }
 {
     let signature = signature_of(alloc, told)?;
-    bytes_value(alloc, signature.as_slice())
+    put_bytes(line, "signature", signature.as_slice())
 }

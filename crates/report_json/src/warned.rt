@@ -1,65 +1,82 @@
-// The values of warnings.
-ghost use Rattle.std.specs.Prelude.{◌≡◌, map, IfOk};
-ghost use Rattle.serde_json.specs.View.{view};
+// Warnings, put onto a line.
+ghost use Rattle.std.specs.Prelude.{◌≡◌, ◌∷◌, map, codes, OnOk};
+ghost use Rattle.json.specs.Token.{key};
+ghost use Rattle.serde_json.specs.Data.{null};
 ghost use Rattle.region_report.specs.Tellers.{told_in};
 ghost use Rattle.region_report.specs.Warned.{warnings_by as warnings_of_report};
-ghost use Rattle.report_json.specs.Schema.{warning_with, warning_data, warnings_data};
+ghost use Rattle.report_json.specs.Schema.{count, warning_with, warning_data, warnings_data};
+ghost use Rattle.report_json.specs.Tokens.{onto, all_onto};
 
-use crate::deaths::name_value;
+use crate::records::put_name;
+use crate::tokens::Line;
 use region_report::{Origin, Report, Telling, Warning, warnings_by};
-use serde_json::{Value, json};
 use std::alloc::{AllocError, Global};
 
-fn warning_with(alloc: Global, code: &str, count: Value, about: Value) -> Result<Value, AllocError>
-    ensures { IfOk result (λ v. view v ≡ warning_with code.now (view count) (view about)) }
+/// A warning with a number.
+fn put_counted(line: &mut Line, code: &str, number: u64) -> Result<(), AllocError>
+    ensures { OnOk result (line.new ≡ onto (warning_with code.now (count number) null) line.old) }
 {
-    json!(in alloc; { "code": code, "count": count, "record": about })
+    line.begin_object()?;
+    line.text("code", code)?;
+    line.count("count", number)?;
+    line.none("record")?;
+    line.end_object()
 }
 
-fn warning_value(alloc: Global, origin: Origin, warning: Warning) -> Result<Value, AllocError>
-    ensures { IfOk result (λ v. view v ≡ warning_data origin warning) }
+fn put_warning(line: &mut Line, origin: Origin, warning: Warning) -> Result<(), AllocError>
+    ensures { OnOk result (line.new ≡ onto (warning_data origin warning) line.old) }
 {
     match warning {
         Warning::ConsoleTells(dump) => {
-            let name = name_value(alloc, origin, dump)?;
-            warning_with(alloc, "console_tells", Value::Null, name)
+            line.begin_object()?;
+            line.text("code", "console_tells")?;
+            line.none("count")?;
+            put_name(line, "record", origin, dump)?;
+            line.end_object()
         }
-        Warning::BadTeller(bad) => {
-            warning_with(alloc, "bad_teller", Value::from(bad), Value::Null)
+        Warning::BadTeller(bad) => put_counted(line, "bad_teller", bad),
+        Warning::BadHeaders(headers) => put_counted(line, "bad_headers", headers),
+        Warning::NoLog => {
+            line.begin_object()?;
+            line.text("code", "no_log")?;
+            line.none("count")?;
+            line.none("record")?;
+            line.end_object()
         }
-        Warning::BadHeaders(count) => {
-            warning_with(alloc, "bad_headers", Value::from(count), Value::Null)
-        }
-        Warning::NoLog => warning_with(alloc, "no_log", Value::Null, Value::Null),
-        Warning::ManyBad(zones) => {
-            warning_with(alloc, "many_bad", Value::from(zones), Value::Null)
-        }
+        Warning::ManyBad(zones) => put_counted(line, "many_bad", zones),
     }
 }
 
-fn warning_values(
-    alloc: Global,
-    origin: Origin,
-    warnings: &[Warning],
-) -> Result<Vec<Value>, AllocError>
-    ensures { IfOk result (λ values. map view values.items ≡ map (warning_data origin) warnings.now) }
+fn put_each(line: &mut Line, origin: Origin, warnings: &[Warning]) -> Result<(), AllocError>
+    ensures { OnOk result (line.new ≡ all_onto (map (warning_data origin) warnings.now) line.old) }
 {
-    let mut values = Vec::with_capacity(alloc, warnings.len())?;
     for warning in warnings {
-        values.push(warning_value(alloc, origin, *warning)?)?;
+        put_warning(line, origin, *warning)?;
     }
-    Ok(values)
+    Ok(())
+}
+
+#[tactic(auto, using(crate::proofs::Onto::arrays))]
+fn put_list(line: &mut Line, origin: Origin, warnings: &[Warning]) -> Result<(), AllocError>
+    ensures { OnOk result (line.new ≡ onto (warnings_data origin warnings.now) line.old) }
+{
+    line.begin_array()?;
+    put_each(line, origin, warnings)?;
+    line.end_array()
 }
 
 /// The warnings of a report in which this tells why the machine died.
-pub fn warnings_value(
+pub fn put_warnings(
     alloc: Global,
+    line: &mut Line,
     report: &Report,
     told: Option<Telling<'_>>,
-) -> Result<Value, AllocError>
-    ensures { IfOk result (λ v. view v ≡ warnings_data report.now.origin (warnings_of_report report.now (told_in told.entry))) }
+) -> Result<(), AllocError>
+    ensures { OnOk result (line.new
+        ≡ onto (warnings_data report.now.origin (warnings_of_report report.now (told_in told.entry)))
+        (key (codes "warnings") ∷ line.old)) }
 {
     let warnings = warnings_by(alloc, report, told)?;
-    let values = warning_values(alloc, report.origin(), warnings.as_slice())?;
-    Ok(Value::from(values))
+    line.key("warnings")?;
+    put_list(line, report.origin(), warnings.as_slice())
 }

@@ -1,120 +1,116 @@
-// The values of parameters, sizes and zones.
-ghost use Rattle.std.specs.Prelude.{◌≡◌, ◌<◌, ◌++◌, length, map, replicate, Some, None, IfOk, OnOk};
+// Parameters, sizes and zones, put onto a line.
+ghost use Rattle.std.specs.Prelude.{◌≡◌, ◌<◌, List, ◌∷◌, length, map, replicate, codes, OnOk};
+ghost use Rattle.json.specs.Token.{Token, key, begin_array, end_array};
 ghost use Rattle.serde_json.specs.Data.{array, null};
-ghost use Rattle.serde_json.specs.View.{view, items_of};
-ghost use Rattle.report_json.specs.Schema.{count, parameters_with, parameters_data, sizes_data, division_data, part_data, blocks_data};
-ghost use Rattle.report_json.specs.Schema.{words_data, layout_data};
-ghost use Rattle.report_json.specs.Schema.{zone_with, zone_data, kind_text, state_text, IsZoneAt, AreZones};
+ghost use Rattle.serde_json.specs.View.{items_of};
+ghost use Rattle.report_json.specs.Schema.{parameters_data, sizes_data, division_data, part_data, blocks_data};
+ghost use Rattle.report_json.specs.Schema.{words_data, layout_data, zone_data, kind_text, state_text};
+ghost use Rattle.report_json.specs.Tokens.{onto, all_onto};
+ghost use Rattle.report_json.specs.PutZones.{PutsZone, PutsZones};
 
+use crate::tokens::Line;
 use prz_read::{Logs, Reading};
 use psz_spec::Sizes;
 use region_report::{Division, PartState, ZoneParts};
-use serde_json::{Value, json};
-use std::alloc::{AllocError, Global};
-use zone_spec::{Kind, Params, State, Words, Zone, ZoneName};
-
-// The parameters, with the values of the two orders.
-fn parameters_with(
-    alloc: Global,
-    p: &Params,
-    byte_order: Value,
-    order: Value,
-) -> Result<Value, AllocError>
-    ensures { IfOk result (λ v. view v ≡ parameters_with (view byte_order) (view order) p.now) }
-{
-    json!(in alloc; {
-        "record_size": p.dump,
-        "pmsg_size": p.pmsg,
-        "order": order,
-        "mem_size": p.mem,
-        "ftrace_size": p.ftrace,
-        "ftrace_sig": p.ftrace_sig,
-        "ecc_pmsg": p.ecc_pmsg,
-        "ecc_ftrace": p.ecc_ftrace,
-        "ecc_dump": p.ecc_dump,
-        "ecc_console": p.ecc_console,
-        "ecc": p.ecc,
-        "cpus": p.cpus,
-        "console_size": p.console,
-        "byte_order": byte_order,
-        "block_size": p.block
-    })
-}
+use std::alloc::AllocError;
+use zone_spec::{Kind, Params, State, Words, Zone};
 
 /// The parameters as they were given.
-fn parameters_value(alloc: Global, p: &Params) -> Result<Value, AllocError>
-    ensures { IfOk result (λ v. view v ≡ parameters_data p.now) }
+fn put_parameters(line: &mut Line, p: &Params) -> Result<(), AllocError>
+    ensures { OnOk result (line.new ≡ onto (parameters_data p.now) line.old) }
 {
-    let byte_order = Value::try_from_str(alloc, p.byte_order.text())?;
-    let order = Value::try_from_str(alloc, p.order.text())?;
-    parameters_with(alloc, p, byte_order, order)
+    line.begin_object()?;
+    line.count("block_size", p.block)?;
+    line.text("byte_order", p.byte_order.text())?;
+    line.count("console_size", p.console)?;
+    line.count("cpus", p.cpus)?;
+    line.count("ecc", p.ecc)?;
+    line.count("ecc_console", p.ecc_console)?;
+    line.count("ecc_dump", p.ecc_dump)?;
+    line.count("ecc_ftrace", p.ecc_ftrace)?;
+    line.count("ecc_pmsg", p.ecc_pmsg)?;
+    line.count("ftrace_sig", p.ftrace_sig as u64)?;
+    line.count("ftrace_size", p.ftrace)?;
+    line.count("mem_size", p.mem)?;
+    line.text("order", p.order.text())?;
+    line.count("pmsg_size", p.pmsg)?;
+    line.count("record_size", p.dump)?;
+    line.end_object()
 }
 
-fn sizes_value(alloc: Global, s: &Sizes) -> Result<Value, AllocError>
-    ensures { IfOk result (λ v. view v ≡ sizes_data s.now) }
+fn put_sizes(line: &mut Line, s: &Sizes) -> Result<(), AllocError>
+    ensures { OnOk result (line.new ≡ onto (sizes_data s.now) line.old) }
 {
-    json!(in alloc; {
-        "console_size": s.console,
-        "cpus": s.cpus,
-        "ftrace_size": s.ftrace,
-        "kmsg_size": s.dump,
-        "pmsg_size": s.pmsg,
-        "total_size": s.total
-    })
+    line.begin_object()?;
+    line.count("console_size", s.console as u64)?;
+    line.count("cpus", s.cpus as u64)?;
+    line.count("ftrace_size", s.ftrace as u64)?;
+    line.count("kmsg_size", s.dump as u64)?;
+    line.count("pmsg_size", s.pmsg as u64)?;
+    line.count("total_size", s.total)?;
+    line.end_object()
 }
 
 /// What divides the store into its zones.
-pub fn division_value(alloc: Global, division: &Division) -> Result<Value, AllocError>
-    ensures { IfOk result (λ v. view v ≡ division_data division.now) }
+pub fn put_division(line: &mut Line, division: &Division) -> Result<(), AllocError>
+    ensures { OnOk result (line.new ≡ onto (division_data division.now) (key (codes "parameters") ∷ line.old)) }
 {
+    line.key("parameters")?;
     match division {
-        Division::Region(params) => parameters_value(alloc, params),
-        Division::Storage(sizes) => sizes_value(alloc, sizes),
+        Division::Region(params) => put_parameters(line, params),
+        Division::Storage(sizes) => put_sizes(line, sizes),
     }
 }
 
-fn part_value(alloc: Global, state: PartState) -> Result<Value, AllocError>
-    ensures { IfOk result (λ v. view v ≡ part_data state) }
+fn put_part(line: &mut Line, state: PartState) -> Result<(), AllocError>
+    ensures { OnOk result (line.new ≡ onto (part_data state) line.old) }
 {
     match state {
-        PartState::Read(corrected) => Ok(Value::from(corrected)),
-        PartState::Bad => Value::try_from_str(alloc, "bad"),
+        PartState::Read(corrected) => line.number(corrected as u64),
+        PartState::Bad => line.string("bad"),
     }
 }
 
-/// Adds so many unused blocks.
-fn add_unused(blocks: &mut Vec<Value>, count: usize) -> Result<(), AllocError>
-    ensures { OnOk result (map view blocks.new.items ≡ map view blocks.old.items ++ replicate count null) }
+fn put_used(line: &mut Line, used: &[PartState]) -> Result<(), AllocError>
+    ensures { OnOk result (line.new ≡ all_onto (map part_data used.now) line.old) }
 {
-    for _unused in 0..count {
-        blocks.push(Value::Null)?;
+    for state in used {
+        put_part(line, *state)?;
     }
     Ok(())
 }
 
-fn used_blocks(alloc: Global, used: &[PartState]) -> Result<Vec<Value>, AllocError>
-    ensures { IfOk result (λ blocks. map view blocks.items ≡ map part_data used.now) }
+#[tactic(auto, using(crate::proofs::Onto::arrays))]
+fn put_unused(line: &mut Line, count: usize) -> Result<(), AllocError>
+    ensures { OnOk result (line.new ≡ all_onto (replicate count null) line.old) }
 {
-    let mut blocks = Vec::with_capacity(alloc, used.len())?;
-    for state in used {
-        blocks.push(part_value(alloc, *state)?)?;
+    for _unused in 0..count {
+        line.null()?;
     }
-    Ok(blocks)
+    Ok(())
 }
 
-fn blocks_value(alloc: Global, zone: &Zone, used: &[PartState]) -> Result<Value, AllocError>
-    ensures { IfOk result (λ v. view v ≡ array (items_of (blocks_data zone.now used.now))) }
+#[tactic(auto, using(crate::proofs::Onto::arrays))]
+fn put_blocks(line: &mut Line, zone: &Zone, used: &[PartState]) -> Result<(), AllocError>
+    ensures { OnOk result (line.new
+        ≡ onto (array (items_of (blocks_data zone.now used.now))) (key (codes "blocks") ∷ line.old)) }
 {
-    let mut blocks = used_blocks(alloc, used)?;
-    let unused = (zone.blocks as usize).saturating_sub(used.len());
-    add_unused(&mut blocks, unused)?;
-    Ok(Value::Array(blocks))
+    line.key("blocks")?;
+    line.begin_array()?;
+    put_used(line, used)?;
+    put_unused(line, (zone.blocks as usize).saturating_sub(used.len()))?;
+    line.end_array()
 }
 
-fn words_value(alloc: Global, words: Words) -> Result<Value, AllocError>
-    ensures { IfOk result (λ v. view v ≡ words_data words) }
+fn put_words(line: &mut Line, words: Words) -> Result<(), AllocError>
+    ensures { OnOk result (line.new ≡ onto (words_data words) (key (codes "words") ∷ line.old)) }
 {
-    json!(in alloc; { "signature": words.sig, "size": words.size, "start": words.start })
+    line.key("words")?;
+    line.begin_object()?;
+    line.count("signature", words.sig as u64)?;
+    line.count("size", words.size as u64)?;
+    line.count("start", words.start as u64)?;
+    line.end_object()
 }
 
 fn kind_text(kind: Kind) -> &'static str
@@ -139,92 +135,91 @@ fn state_text(state: State) -> &'static str
     }
 }
 
-fn layout_value(alloc: Global, zone: &Zone) -> Result<Value, AllocError>
-    ensures { IfOk result (λ v. view v ≡ layout_data zone.now) }
+fn put_layout(line: &mut Line, zone: &Zone) -> Result<(), AllocError>
+    ensures { OnOk result (line.new ≡ onto (layout_data zone.now) (key (codes "layout") ∷ line.old)) }
 {
-    json!(in alloc; {
-        "at": zone.at,
-        "block_size": zone.block,
-        "capacity": zone.cap,
-        "parity": zone.parity,
-        "size": zone.size
-    })
+    line.key("layout")?;
+    line.begin_object()?;
+    line.count("at", zone.at as u64)?;
+    line.count("block_size", zone.block as u64)?;
+    line.count("capacity", zone.cap as u64)?;
+    line.count("parity", zone.parity as u64)?;
+    line.count("size", zone.size as u64)?;
+    line.end_object()
 }
 
-/// A zone with the values of its header, its blocks and its layout.
-fn zone_with(
-    alloc: Global,
-    name: ZoneName,
-    reading: &Reading,
-    header: Value,
-    blocks: Value,
-    layout: Value,
-) -> Result<Value, AllocError>
-    ensures { IfOk result (λ v. view v ≡ zone_with name reading.now (view header) (view blocks) (view layout)) }
-{
-    let words = words_value(alloc, reading.words)?;
-    json!(in alloc; {
-        "words": words,
-        "state": state_text(reading.state),
-        "layout": layout,
-        "kind": kind_text(name.kind),
-        "index": name.index,
-        "header": header,
-        "corrected": reading.corrected,
-        "blocks": blocks,
-        "bad": reading.bad
-    })
-}
-
-fn zone_value(
-    alloc: Global,
+fn put_zone(
+    line: &mut Line,
     zone: &Zone,
     reading: &Reading,
     parts: &ZoneParts,
-) -> Result<Value, AllocError>
-    ensures { IfOk result (λ v. view v ≡ zone_data zone.now reading.now parts.now) }
+) -> Result<(), AllocError>
+    ensures { OnOk result (line.new ≡ onto (zone_data zone.now reading.now parts.now) line.old) }
 {
-    let header = part_value(alloc, parts.header)?;
-    let blocks = blocks_value(alloc, zone, &parts.blocks)?;
-    let layout = layout_value(alloc, zone)?;
-    zone_with(alloc, zone.name, reading, header, blocks, layout)
+    line.begin_object()?;
+    line.count("bad", reading.bad as u64)?;
+    put_blocks(line, zone, &parts.blocks)?;
+    line.count("corrected", reading.corrected as u64)?;
+    line.key("header")?;
+    put_part(line, parts.header)?;
+    line.count("index", zone.name.index as u64)?;
+    line.text("kind", kind_text(zone.name.kind))?;
+    put_layout(line, zone)?;
+    line.text("state", state_text(reading.state))?;
+    put_words(line, reading.words)?;
+    line.end_object()
 }
 
 /// The zone at a place, which has a reading.
-fn value_at(
-    alloc: Global,
+fn put_at(
+    line: &mut Line,
     zones: &[Zone],
     logs: &Logs,
     parts: &[ZoneParts],
     i: u32,
-) -> Result<Value, AllocError>
+) -> Result<(), AllocError>
     requires readings { i < length logs.now.readings }
     requires zones { i < length zones.now }
     requires parts { i < length parts.now }
-    ensures { IfOk result (λ v. IsZoneAt zones.now logs.now.readings parts.now i (view v)) }
+    ensures { OnOk result (PutsZone zones.now logs.now.readings parts.now i line.old line.new) }
 {
     let place = i as usize;
     match logs.reading(i) {
-        Some(reading) => zone_value(alloc, &zones[place], reading, &parts[place]),
-        None => Ok(Value::Null),
+        Some(reading) => put_zone(line, &zones[place], reading, &parts[place]),
+        None => line.null(),
     }
 }
 
-/// The zones in the layout's order.
-pub fn zone_values(
-    alloc: Global,
+fn put_each(
+    line: &mut Line,
     zones: &[Zone],
     logs: &Logs,
     parts: &[ZoneParts],
-) -> Result<Vec<Value>, AllocError>
+) -> Result<(), AllocError>
     requires readings { length logs.now.readings ≡ length zones.now }
     requires parts { length parts.now ≡ length zones.now }
-    ensures { IfOk result (λ values. AreZones zones.now logs.now.readings parts.now (length zones.now)
-        (map view values.items)) }
+    ensures { OnOk result (PutsZones zones.now logs.now.readings parts.now (length zones.now) line.old line.new) }
 {
-    let mut values = Vec::with_capacity(alloc, zones.len())?;
     for i in 0..logs.len() {
-        values.push(value_at(alloc, zones, logs, parts, i)?)?;
+        put_at(line, zones, logs, parts, i)?;
     }
-    Ok(values)
+    Ok(())
+}
+
+/// The zones in the layout's order.
+pub fn put_zones(
+    line: &mut Line,
+    zones: &[Zone],
+    logs: &Logs,
+    parts: &[ZoneParts],
+) -> Result<(), AllocError>
+    requires readings { length logs.now.readings ≡ length zones.now }
+    requires parts { length parts.now ≡ length zones.now }
+    ensures { OnOk result ((between : List Token) × PutsZones zones.now logs.now.readings parts.now (length zones.now)
+        (begin_array ∷ key (codes "zones") ∷ line.old) between × (line.new ≡ end_array ∷ between)) }
+{
+    line.key("zones")?;
+    line.begin_array()?;
+    put_each(line, zones, logs, parts)?;
+    line.end_array()
 }

@@ -5,6 +5,7 @@ use Rattle.std.specs.List.{list_any}
 use Rattle.std.specs.Option.{option_map}
 use Rattle.zone_spec.specs.declared.Name.{Name}
 use Rattle.zone_spec.specs.declared.Name.TheVariants.{Dump, Console, Pmsg, Ftrace}
+use Rattle.zone_spec.specs.declared.Time.{Time}
 use Rattle.death_spec.specs.declared.Line.{Line}
 use Rattle.death_spec.specs.declared.Death.{Death}
 use Rattle.death_spec.specs.declared.Mark.TheVariants.{Panic}
@@ -53,6 +54,22 @@ told_of (Some dump) (Some console) = if tells_more console dump then Some consol
 -- what the newest dump tells, unless the console alone tells or has a panic that this dump lacks
 unfoldable pub death_told : List RecordShown → Option DeathTold
 death_told records = told_of (told_by (newest records)) (told_by (console_of records))
+
+-- ---- when
+
+-- the date of a dump that has the telling line too
+abbrev pub shared_time : DeathTold → Option RecordShown → Option Time
+shared_time t None = None
+shared_time t (Some dump) =
+    if has_line (readable dump) (stamped (readable t.teller) t.death.telling) then dump.time else None
+
+abbrev pub time_or : Option Time → DeathTold → Option RecordShown → Option Time
+time_or None t dump = shared_time t dump
+time_or (Some time) t dump = Some time
+
+-- when a death was: the date of the record that tells, or, as a console has none, that of this dump
+abbrev pub death_time : DeathTold → (dump : Option RecordShown) → Option Time
+death_time t dump = time_or t.teller.time t dump
 
 -- ---- other deaths
 

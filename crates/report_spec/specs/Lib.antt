@@ -11,3 +11,4 @@ pub mod Facts
 pub mod Ends
 pub mod Origins
 pub mod Doubts
+pub mod Mending

@@ -21,14 +21,15 @@ use Rattle.pmsg_spec.specs.Entries.{entries}
 use Rattle.pmsg_spec.specs.Lines.{lines_text}
 use Rattle.report_spec.specs.declared.TextFault.{TextFault}
 use Rattle.report_spec.specs.declared.TextFault.TheVariants.{Broken, TooLong}
+use Rattle.report_spec.specs.declared.Mended.{Mended}
 use Rattle.report_spec.specs.declared.Packing.{Packing}
 use Rattle.report_spec.specs.declared.Packing.TheVariants.{Plain, Whole, Part}
 use Rattle.zone_spec.specs.RecordsHeld.{RecordHeld, records_held}
 use Rattle.report_spec.specs.Said.{shift_in}
 
 -- a record's name and content as its file has them, the content with its notice, and how many bytes that has; whether
--- its bytes were packed; of a pmsg the entries of Android's log, if it has such, with their lines; and of each byte of
--- its text whether it is doubtful, if any is
+-- its bytes were packed; of a pmsg the entries of Android's log, if it has such, with their lines; its text, if another
+-- record mended it; and of each byte of its text whether it is doubtful, if any is
 pub record RecordShown : Type 0 where
   pub name : Name
   pub time : Option Time
@@ -37,6 +38,7 @@ pub record RecordShown : Type 0 where
   pub packing : Packing (List ℕ)
   pub entries : List Entry
   pub lines : List ℕ
+  pub mended : Option (Mended (List ℕ))
   pub doubts : List Bool
 
 -- ---- words
@@ -80,6 +82,7 @@ as_it_stands r packing =
       packing = packing;
       entries = [];
       lines = [];
+      mended = None;
       doubts = [];
     }
 
@@ -94,6 +97,7 @@ as_listed r =
       packing = Plain;
       entries = entries r.content;
       lines = lines_text r.content (entries r.content);
+      mended = None;
       doubts = [];
     }
 
@@ -109,6 +113,7 @@ as_traced names shift r =
       packing = Plain;
       entries = [];
       lines = [];
+      mended = None;
       doubts = [];
     }
 
@@ -137,6 +142,7 @@ inflated r index text taken =
       packing = Whole taken;
       entries = [];
       lines = [];
+      mended = None;
       doubts = [];
     }
 
@@ -185,9 +191,14 @@ abbrev pub lines_or : List Entry → List ℕ → List ℕ → List ℕ
 lines_or [] lines text = text
 lines_or (entry ∷ entries) lines text = lines
 
--- what people read of a record: the lines of its entries, else a text up to its fault, else its content
+abbrev pub mended_or : Option (Mended (List ℕ)) → List ℕ → List ℕ
+mended_or None text = text
+mended_or (Some mended) text = mended.text
+
+-- what people read of a record: the lines of its entries, else its text as another record mended it, else a text up to
+-- its fault, else its content
 abbrev pub readable : RecordShown → List ℕ
-readable r = lines_or r.entries r.lines (readable_of r.packing r.content)
+readable r = lines_or r.entries r.lines (mended_or r.mended (readable_of r.packing r.content))
 
 -- the same without the notice
 abbrev pub said_of : Packing (List ℕ) → ℕ → List ℕ → List ℕ
@@ -195,5 +206,9 @@ said_of Plain notice content = take (length content - notice) content
 said_of (Whole taken) notice content = take (length content - notice) content
 said_of (Part fault text) notice content = text
 
+abbrev pub mended_said_or : Option (Mended (List ℕ)) → ℕ → List ℕ → List ℕ
+mended_said_or None notice said = said
+mended_said_or (Some mended) notice said = take (length mended.text - notice) mended.text
+
 abbrev pub said : RecordShown → List ℕ
-said r = lines_or r.entries r.lines (said_of r.packing r.notice r.content)
+said r = lines_or r.entries r.lines (mended_said_or r.mended r.notice (said_of r.packing r.notice r.content))

@@ -44,6 +44,13 @@ pub enum Packing<Text> {
     Part { fault: TextFault, text: Text },
 }
 
+/// The text of a record, of which doubtful bytes were taken from the same lines of another record.
+#[derive(Debug, PartialEq, Eq, Drop)]
+pub struct Mended<Text> {
+    pub by: Name,
+    pub text: Text,
+}
+
 /// What must be known before a report is believed.
 #[derive(Clone, Copy, Debug, PartialEq, Eq)]
 pub enum Warning {

@@ -6,6 +6,8 @@ mod death_told_tests;
 #[cfg(test)]
 mod doubts_tests;
 #[cfg(test)]
+mod mending_tests;
+#[cfg(test)]
 mod packed_dumps;
 #[cfg(test)]
 mod people_read_tests;

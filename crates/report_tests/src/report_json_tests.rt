@@ -75,21 +75,21 @@ fn why_it_died(rt: HostRuntime) -> Result<(), Fail> {
         (
             [NAMED, NONE, NONE, NONE],
             "{\"better\":null,\"death\":{\"cpu\":\"0\",\"function\":\"sysrq_handle_crash+0x16/0x20\",\"is_next\":false,\"kernel\":\"Not tainted 6.1.0 #1\",\
-\"line\":\"Kernel panic - not syncing: <b>\",\"record\":\"dmesg-ramoops-0\",\"second\":null,\
+\"line\":\"Kernel panic - not syncing: <b>\",\"mended_by\":null,\"record\":\"dmesg-ramoops-0\",\"second\":null,\
 \"task\":\"PID: 1 Comm: init\",\"trace\":[\"panic\",\"sysrq_handle_crash\"],\"uptime\":\"2.500000\"},\"end\":null,\
 \"machine\":{\"cmdline\":null,\"hardware\":null,\"kernel_offset\":null,\"modules\":null,\"version\":null},\"parameters\":",
         ),
         (
             [NONE, PANIC, NONE, CONSOLE],
             "{\"better\":null,\"death\":{\"cpu\":null,\"function\":null,\"is_next\":false,\"kernel\":null,\
-\"line\":\"Kernel panic - not syncing: sysrq triggered crash\",\"record\":\"dmesg-ramoops-1\",\"second\":null,\
+\"line\":\"Kernel panic - not syncing: sysrq triggered crash\",\"mended_by\":null,\"record\":\"dmesg-ramoops-1\",\"second\":null,\
 \"task\":null,\"trace\":[],\"uptime\":\"3.034971\"},\"end\":null,\
 \"machine\":{\"cmdline\":null,\"hardware\":null,\"kernel_offset\":\"disabled\",\"modules\":null,\"version\":null},\"parameters\":",
         ),
         (
             [NONE, NONE, NONE, FATAL],
             "{\"better\":null,\"death\":{\"cpu\":null,\"function\":null,\"is_next\":false,\"kernel\":null,\"line\":\"Oops: a\",\
-\"record\":\"console-ramoops-0\",\"second\":\"Kernel panic - not syncing: Fatal exception\",\
+\"mended_by\":null,\"record\":\"console-ramoops-0\",\"second\":\"Kernel panic - not syncing: Fatal exception\",\
 \"task\":null,\"trace\":[],\"uptime\":\"3.0\"},\"end\":null,\
 \"machine\":{\"cmdline\":null,\"hardware\":null,\"kernel_offset\":null,\"modules\":null,\"version\":null},\"parameters\":",
         ),

@@ -199,6 +199,23 @@ zones 4, records 3
 zones 4, records 1
 ",
         ),
+        (
+            [
+                b"====1795736654.642000-D\nOops#7 Part1\n<4>[    3.0] Oops: a\n",
+                NONE,
+                NONE,
+                FATAL,
+            ],
+            "died: Oops: a
+  led to     Kernel panic - not syncing: Fatal exception
+  signature  Oops
+  when       2026-11-26 23:44:14.642000 UTC
+  up         3.0 s
+  told by    console-ramoops-0
+  image      a
+  careful    the newest dump, dmesg-ramoops-0, does not have this line
+",
+        ),
     ] {
         let text = shown_deaths(rt.alloc(), logs)?;
         assert!(rt;

@@ -84,7 +84,8 @@ pub fn line_of(
     if report.logs().len() as usize != zones.len() || report.parts().len() != zones.len() {
         return Err(Fail::from("the report has other zones"));
     }
-    Ok(json(alloc, path, &Division::Region(*params), zones, report, "")?)
+    let line = json(alloc, path, &Division::Region(*params), zones, report, "")?;
+    Ok(String::from_str(alloc, str::from_utf8(line.as_slice())?)?)
 }
 
 /// Its page.

@@ -7,13 +7,14 @@ use Rattle.death_spec.specs.declared.Line.{Line}
 use Rattle.death_spec.specs.declared.Span.{Span}
 use Rattle.death_spec.specs.declared.Death.{Death}
 use Rattle.death_spec.specs.Lines.{part}
+use Rattle.report_spec.specs.declared.Mended.{Mended}
 use Rattle.report_spec.specs.declared.Packing.{Packing}
 use Rattle.report_spec.specs.declared.Packing.TheVariants.{Plain, Whole, Part as PartOfText}
 use Rattle.report_spec.specs.declared.Warning.{Warning}
 use Rattle.report_spec.specs.declared.Warning.TheVariants.{ConsoleTells, BadTeller, BadHeaders, NoLog, ManyBad}
 use Rattle.report_spec.specs.Packed.{RecordShown, readable}
-use Rattle.report_spec.specs.Newest.{is_console, console_of}
-use Rattle.report_spec.specs.Deaths.{DeathTold, stamped, has_line}
+use Rattle.report_spec.specs.Newest.{newest, is_console, console_of}
+use Rattle.report_spec.specs.Deaths.{DeathTold, stamped, has_line, death_time}
 use Rattle.report_spec.specs.Ends.{EndTold, end_told, end_words}
 use Rattle.report_spec.specs.Facts.{uptime_of, seconds_from, MachineTold, machine_of, machine_ended}
 use Rattle.report_text.specs.Pieces.{Part, Words, Count, Bytes, Moment, Long, Named}
@@ -94,9 +95,18 @@ console_words t (Some console) =
     if is_console t.teller.name then []
     else shared_words (has_line (readable console) (stamped (readable t.teller) t.death.telling))
 
+-- by which record it is mended
+abbrev pub mended_parts : Option (Mended (List ℕ)) → List Part
+mended_parts None = []
+mended_parts (Some mended) =
+    Words (codes ", with bytes of ") ∷ Named mended.by ∷ Words (codes " where its own are bad") ∷ []
+
+abbrev pub name_parts : RecordShown → List Part
+name_parts r = Words (codes "  told by    ") ∷ Named r.name ∷ Words (packing_words r.packing) ∷ []
+
 -- the record that tells, and the image
 abbrev pub teller_parts : RecordShown → List Part
-teller_parts r = Words (codes "  told by    ") ∷ Named r.name ∷ Words (packing_words r.packing) ∷ []
+teller_parts r = name_parts r ++ mended_parts r.mended
 
 abbrev pub image_parts : List ℕ → List ℕ → List Part
 image_parts words title =
@@ -105,9 +115,9 @@ image_parts words title =
 abbrev pub source_parts : RecordShown → List ℕ → List ℕ → List Part
 source_parts r words title = teller_parts r ++ image_parts words title
 
-abbrev pub death_parts : List ℕ → List ℕ → DeathTold → Option RecordShown → List Part
-death_parts title signature t console =
-    reason_parts signature (readable t.teller) t.death ++ when_parts t.teller.time
+abbrev pub death_parts : List ℕ → List ℕ → DeathTold → (dump console : Option RecordShown) → List Part
+death_parts title signature t dump console =
+    reason_parts signature (readable t.teller) t.death ++ when_parts (death_time t dump)
     ++ up_parts (uptime_of (readable t.teller) t.death.telling) ++ named_parts (readable t.teller) t.death
     ++ machine_parts (machine_of t console) ++ source_parts t.teller (console_words t console) title
 
@@ -135,7 +145,8 @@ unless_ended title (Some t) = end_parts title t
 -- why the machine died, or how the log ends, with what is known of it
 abbrev pub first_parts : List ℕ → List ℕ → List RecordShown → Option DeathTold → List Part
 first_parts title signature records None = unless_ended title (end_told records)
-first_parts title signature records (Some t) = death_parts title signature t (console_of records)
+first_parts title signature records (Some t) =
+    death_parts title signature t (newest records) (console_of records)
 
 -- ---- warnings
 
@@ -182,8 +193,9 @@ short_end None = Words (codes "  -  no death: no record tells of the kernel\n") 
 short_end (Some t) =
     Words (codes "  -  ") ∷ Words (end_words t) ∷ Words (codes "\n") ∷ []
 
--- the time of the record that tells, and the signature; or how the log ends
+-- when it was, and the signature; or how the log ends
 abbrev pub short_parts : List ℕ → List RecordShown → Option DeathTold → List Part
 short_parts signature records None = short_end (end_told records)
 short_parts signature records (Some t) =
-    Words (codes "  ") ∷ short_time t.teller.time ++ Words (codes "  ") ∷ Bytes signature ∷ Words (codes "\n") ∷ []
+    Words (codes "  ") ∷ short_time (death_time t (newest records)) ++ Words (codes "  ") ∷ Bytes signature
+    ∷ Words (codes "\n") ∷ []

@@ -12,8 +12,8 @@ use crate::pieces::{Piece, add};
 use death::part;
 use death_spec::{Death, Line};
 use region_report::{
-    End, RecordReport, Telling, console, end_text, end_told, has_telling_line, is_console,
-    machine_ended, machine_told, uptime,
+    End, RecordReport, Telling, console, death_time, end_text, end_told, has_telling_line,
+    is_console, machine_ended, machine_told, newest_dump, uptime,
 };
 use std::alloc::AllocError;
 
@@ -88,15 +88,17 @@ fn add_death<'a>(
     title: &'a [u8],
     signature: &'a [u8],
     told: &Telling<'a>,
+    dump: Option<&RecordReport>,
     console: Option<&'a RecordReport>,
 ) -> Result<(), AllocError>
     ensures { OnOk result (parts pieces.new.items ≡ parts pieces.old.items
-        ++ death_parts title.entry.now signature.entry.now (as_told told.now) (option_copied console.entry)) }
+        ++ death_parts title.entry.now signature.entry.now (as_told told.now) (option_copied dump.entry)
+        (option_copied console.entry)) }
 {
     let teller: &'a RecordReport = told.teller;
     let text = teller.readable();
     add_reason(pieces, signature, text, told.death)?;
-    add_when(pieces, teller.time)?;
+    add_when(pieces, death_time(told, dump))?;
     add_up(pieces, uptime(text, told.death.telling))?;
     add_named(pieces, text, told.death)?;
     add_machine(pieces, machine_told(told, console))?;
@@ -180,7 +182,14 @@ pub fn add_first<'a>(
         ++ first_parts title.entry.now signature.entry.now records.entry.now (told_in told.entry)) }
 {
     match told {
-        Some(told) => add_death(pieces, title, signature, &told, console(records)),
+        Some(told) => add_death(
+            pieces,
+            title,
+            signature,
+            &told,
+            newest_dump(records),
+            console(records),
+        ),
         None => add_no_death(pieces, title, end_told(records)),
     }
 }

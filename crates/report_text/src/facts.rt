@@ -1,16 +1,18 @@
 // What is known of a death besides its line.
 ghost use Rattle.std.specs.Prelude.{◌≡◌, ◌++◌, length, nat_lt, if◌then◌else◌, codes, OnOk};
+ghost use Rattle.std.specs.Option.{option_copied};
 ghost use Rattle.region_report.specs.Machines.{as_machine};
 ghost use Rattle.report_text.specs.Pieces.{parts};
 ghost use Rattle.report_text.specs.Facts.{fact_parts, next_words, function_parts, when_parts, up_parts};
 ghost use Rattle.report_text.specs.Facts.{named_parts, bytes_fact, machine_parts};
-ghost use Rattle.report_text.specs.Facts.{packing_words, teller_parts, image_parts, source_parts};
+ghost use Rattle.report_text.specs.Facts.{packing_words, mended_parts, name_parts, teller_parts, image_parts};
+ghost use Rattle.report_text.specs.Facts.{source_parts};
 
 use crate::pieces::{Piece, add};
 use death::part;
 use death_spec::{Death, Span};
 use outside::Bytes;
-use region_report::{Machine, Packing, RecordReport, seconds};
+use region_report::{Machine, Mended, Packing, RecordReport, seconds};
 use std::alloc::AllocError;
 use zone_spec::Time;
 
@@ -171,9 +173,27 @@ fn packing_text(packing: &Packing<Bytes>) -> &'static str
     }
 }
 
-/// Adds the record that tells.
-fn add_teller(pieces: &mut Vec<Piece<'_>>, entry: &RecordReport) -> Result<(), AllocError>
-    ensures { OnOk result (parts pieces.new.items ≡ parts pieces.old.items ++ teller_parts entry.now) }
+/// Adds by which record a text is mended.
+fn add_mended(pieces: &mut Vec<Piece<'_>>, mended: Option<&Mended<Bytes>>) -> Result<(), AllocError>
+    ensures { OnOk result (parts pieces.new.items
+        ≡ parts pieces.old.items ++ mended_parts (option_copied mended.entry)) }
+{
+    match mended {
+        Some(mended) => add(
+            pieces,
+            &[
+                Piece::Own(", with bytes of "),
+                Piece::Named(mended.by),
+                Piece::Own(" where its own are bad"),
+            ],
+        ),
+        None => Ok(()),
+    }
+}
+
+/// Adds the name of the record that tells, and whether it was packed.
+fn add_name(pieces: &mut Vec<Piece<'_>>, entry: &RecordReport) -> Result<(), AllocError>
+    ensures { OnOk result (parts pieces.new.items ≡ parts pieces.old.items ++ name_parts entry.now) }
 {
     add(
         pieces,
@@ -183,6 +203,14 @@ fn add_teller(pieces: &mut Vec<Piece<'_>>, entry: &RecordReport) -> Result<(), A
             Piece::Own(packing_text(&entry.packing)),
         ],
     )
+}
+
+/// Adds the record that tells.
+fn add_teller(pieces: &mut Vec<Piece<'_>>, entry: &RecordReport) -> Result<(), AllocError>
+    ensures { OnOk result (parts pieces.new.items ≡ parts pieces.old.items ++ teller_parts entry.now) }
+{
+    add_name(pieces, entry)?;
+    add_mended(pieces, entry.mended.as_ref())
 }
 
 /// Adds words on the record that tells, and the image.

@@ -21,8 +21,8 @@ use crate::warned::{add_better, add_warnings};
 use crate::zones::add_zones;
 use outside::Bytes;
 use region_report::{
-    End, RecordReport, Report, Telling, console, death_told, end_text, end_told, newest_dump,
-    signature_of, warnings_by,
+    End, RecordReport, Report, Telling, console, death_time, death_told, end_text, end_told,
+    newest_dump, signature_of, warnings_by,
 };
 use std::alloc::{AllocError, Global};
 use zone_spec::{Time, Zone};
@@ -194,9 +194,8 @@ fn add_short<'a>(
 {
     match told {
         Some(told) => {
-            let teller: &'a RecordReport = told.teller;
             add(pieces, &[Piece::Own("  ")])?;
-            add_short_time(pieces, teller.time)?;
+            add_short_time(pieces, death_time(&told, newest_dump(records)))?;
             add(
                 pieces,
                 &[
@@ -227,8 +226,7 @@ fn line_pieces<'a>(
     Ok(pieces)
 }
 
-/// One line on the image of this title: the time of the record that tells why the machine died, and the signature; or
-/// how the log ends.
+/// One line on the image of this title: when the machine died, and the signature; or how the log ends.
 #[tactic(auto, unfolding(crate::specs::Whole::brief_of))]
 pub fn brief(alloc: Global, title: &[u8], report: &Report) -> Result<Bytes, AllocError>
     ensures text { IfOk result (λ text. text ≡ brief_of title.now report.now) }

@@ -1,5 +1,5 @@
 -- Another layout that explains an image better than the one that was given
-use Rattle.std.specs.Prelude.{◌≡◌, ℕ, Bool, true, false, not, ◌&&◌, ◌||◌, nat_lt, if◌then◌else◌, List, [], length, take}
+use Rattle.std.specs.Prelude.{◌≡◌, ℕ, Bool, true, false, not, ◌&&◌, ◌||◌, ◌==◌, nat_lt, if◌then◌else◌, List, [], length, take}
 use Rattle.std.specs.Prelude.{Option, Some, None, is_some, IfSome}
 use Rattle.std.specs.List.{list_any, count_by}
 use Rattle.command_spec.specs.declared.Stop.{Stop}
@@ -48,10 +48,13 @@ any_parity zones = list_any (λ (z : Zone). nat_lt 0 z.parity) zones
 abbrev pub has_parity : Plan → Bool
 has_parity plan = any_parity plan.zones.items
 
--- it reads badly, no record tells why the machine died, a zone has bad parts, or nothing was checked
+-- parity vouches for the layout: a zone has it, and no part is bad
+abbrev pub is_vouched : Plan → ReportHeld → Bool
+is_vouched plan report = has_parity plan && (bad_zones report == 0)
+
+-- it reads badly, or the memory size was rounded, or parity does not vouch for it
 abbrev pub leaves_doubt : Plan → ReportHeld → Bool
-leaves_doubt plan report =
-    reads_badly report || not (tells_death report) || nat_lt 0 (bad_zones report) || not (has_parity plan)
+leaves_doubt plan report = reads_badly report || plan.is_rounded || not (is_vouched plan report)
 
 -- ---- another explains the image better: it is what the search takes, knowing nothing, and it does not read badly
 

@@ -1,5 +1,6 @@
--- Words read with the memory size as given or rounded, and whether they say nothing of the order of the zones
-use Rattle.std.specs.Prelude.{Bool, true, false, List, Result, codes, is_none}
+-- Words read with the memory size as given or rounded, whether it was rounded, and whether they say nothing of the
+-- order of the zones
+use Rattle.std.specs.Prelude.{ℕ, Bool, true, false, not, ◌==◌, List, Result, codes, is_none, Option, Some, None}
 use Rattle.std.specs.declared.string.String.{String}
 use Rattle.std.specs.declared.alloc.Global.{Global}
 use Rattle.zone_spec.specs.declared.params.Params.{Params}
@@ -13,3 +14,11 @@ read_by false words = read_of words
 
 abbrev pub is_open_by : List (String Global) → Bool
 is_open_by words = is_none (given (texts words) (codes "order"))
+
+abbrev pub is_other : ℕ → Option ℕ → Bool
+is_other mem None = false
+is_other mem (Some size) = not (size == mem)
+
+-- whether a word gives another memory size than this one
+abbrev pub is_rounded_by : List (String Global) → ℕ → Bool
+is_rounded_by words mem = is_other mem (given (texts words) (codes "mem_size"))

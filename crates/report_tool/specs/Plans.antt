@@ -6,7 +6,7 @@ use Rattle.std.specs.Result.{IsOk}
 use Rattle.zone_spec.specs.declared.params.Params.{Params}
 use Rattle.zone_spec.specs.declared.params.LayoutFault.{LayoutFault}
 use Rattle.zone_spec.specs.Layout.{layout_of}
-use Rattle.report_tool.specs.Layouts.{read_by, is_open_by}
+use Rattle.report_tool.specs.Layouts.{read_by, is_open_by, is_rounded_by}
 use Rattle.report_tool.specs.declared.plan.Plan.{Plan}
 use Rattle.report_tool.specs.declared.plan.PlanFault.{PlanFault}
 use Rattle.report_tool.specs.declared.plan.PlanFault.TheVariants.{Memory, Word, Layout}
@@ -22,12 +22,14 @@ pub record IsLaid (p : Params) (plan : Plan) : Type 0 where
   pub lines_ten : plan.lines ≡ 10
   pub not_given : plan.is_given ≡ false
   pub not_open : plan.is_open ≡ false
+  pub not_rounded : plan.is_rounded ≡ false
 
 -- a plan of its parameters, which words or a tree give. Its order of zones is open if no word gives it
 pub record IsGiven (words : List (String Global)) (plan : Plan) : Type 0 where
   pub given : plan.is_given ≡ true
   pub open_by : plan.is_open ≡ is_open_by words
-  pub laid : IsLaid plan.params (record plan { is_given = false; is_open = false })
+  pub rounded_by : plan.is_rounded ≡ is_rounded_by words plan.mem
+  pub laid : IsLaid plan.params (record plan { is_given = false; is_open = false; is_rounded = false })
 
 -- a plan of these words
 pub record IsPlan (words : List (String Global)) (is_as_given : Bool) (plan : Plan) : Type 0 where

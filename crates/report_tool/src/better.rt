@@ -8,7 +8,7 @@ ghost use Rattle.region_report.specs.Reports.{IsReport};
 ghost use Rattle.report_tool.specs.LayoutWords.{layout_words};
 ghost use Rattle.report_spec.specs.Warnings.{is_bad as is_bad_state, has_bad_part};
 ghost use Rattle.report_tool.specs.Better.{doubts_layout, reads_badly, tells_death, bad_zones, any_parity, has_parity};
-ghost use Rattle.report_tool.specs.Better.{leaves_doubt, checks_more, explains_more, words_if, AreWordsOf, AreTakenWords};
+ghost use Rattle.report_tool.specs.Better.{is_vouched, leaves_doubt, checks_more, explains_more, words_if, AreWordsOf, AreTakenWords};
 ghost use Rattle.report_tool.specs.Better.{AreOtherWords, AreSoughtWords, is_doubted, IsBetter, IsWordsStop};
 
 use crate::finding::{MOST, known};
@@ -95,11 +95,18 @@ fn has_parity(plan: &Plan) -> bool
     any_parity(&plan.zones)
 }
 
+// Whether parity vouches for the layout.
+fn is_vouched(plan: &Plan, report: &Report) -> bool
+    ensures { result ≡ is_vouched plan.now report.now }
+{
+    has_parity(plan) && bad_zones(report) == 0
+}
+
 fn leaves_doubt(alloc: Global, plan: &Plan, report: &Report) -> Result<bool, AllocError>
     ensures { IfOk result (λ is. is ≡ leaves_doubt plan.now report.now) }
 {
     let badly = reads_badly(alloc, report)?;
-    Ok(badly || !tells_death(report) || bad_zones(report) > 0 || !has_parity(plan))
+    Ok(badly || plan.is_rounded || !is_vouched(plan, report))
 }
 
 // Whether another layout has parity, and fewer zones are bad by it, or the plan has none.

@@ -2,7 +2,7 @@
 ghost use Rattle.std.specs.Prelude.{◌≡◌, ◌<◌, ◌^◌, true, Some, Ok, MatchResult};
 ghost use Rattle.zone_spec.specs.Layout.{layout_of};
 ghost use Rattle.ramoops_layout.specs.Layouts.{IsCause};
-ghost use Rattle.report_tool.specs.Layouts.{read_by, is_open_by};
+ghost use Rattle.report_tool.specs.Layouts.{read_by, is_open_by, is_rounded_by};
 
 use grammar_spec::ParamFault;
 use ramoops_layout::{DEFAULTS, LayoutError, given, layout, read_words, read_words_over};
@@ -38,6 +38,8 @@ pub struct Plan {
     pub(crate) is_given: bool,
     /// Whether they say nothing of the order of the zones, which the records can then tell.
     pub(crate) is_open: bool,
+    /// Whether a word gives another memory size, which was rounded down.
+    pub(crate) is_rounded: bool,
     ghost laid: { layout_of params ≡ Ok zones.items },
     ghost sized: { mem ≡ params.mem },
     ghost tagged: { params.ftrace_sig < 2 ^ 32 },
@@ -61,6 +63,16 @@ fn is_open_by(words: &[String]) -> bool
     given(words, "order").is_none()
 }
 
+// Whether a word gives another memory size than this one.
+fn is_rounded_by(words: &[String], mem: u32) -> bool
+    ensures { result ≡ is_rounded_by words.now mem }
+{
+    match given(words, "mem_size") {
+        Some(size) => size != mem,
+        None => false,
+    }
+}
+
 impl Plan {
     ghost use Rattle.report_tool.specs.Plans.{IsLaid, IsPlan, IsPlanFault};
 
@@ -79,6 +91,7 @@ impl Plan {
             lines: LINES,
             is_given: false,
             is_open: false,
+            is_rounded: false,
         })
     }
 
@@ -102,6 +115,7 @@ impl Plan {
             lines,
             is_given,
             is_open,
+            is_rounded,
         } = self;
         Plan {
             params,
@@ -112,6 +126,7 @@ impl Plan {
             lines,
             is_given,
             is_open,
+            is_rounded,
         }
     }
 
@@ -128,6 +143,7 @@ impl Plan {
             lines,
             is_given,
             is_open,
+            is_rounded,
         } = self;
         Plan {
             params,
@@ -138,6 +154,7 @@ impl Plan {
             lines,
             is_given,
             is_open,
+            is_rounded,
         }
     }
 
@@ -154,6 +171,7 @@ impl Plan {
             lines: _,
             is_given,
             is_open,
+            is_rounded,
         } = self;
         Plan {
             params,
@@ -164,12 +182,17 @@ impl Plan {
             lines,
             is_given,
             is_open,
+            is_rounded,
         }
     }
 
     // The same plan, of parameters that were given, with these words, which can lack the order of the zones.
     pub(crate) fn given(self, words: &[String]) -> Plan
-        ensures { result ≡ record self { is_given = true; is_open = is_open_by words.now } }
+        ensures { result ≡ record self {
+          is_given = true;
+          is_open = is_open_by words.now;
+          is_rounded = is_rounded_by words.now self.mem;
+        } }
     {
         let Plan {
             params,
@@ -180,6 +203,7 @@ impl Plan {
             lines,
             is_given: _,
             is_open: _,
+            is_rounded: _,
         } = self;
         Plan {
             params,
@@ -190,6 +214,7 @@ impl Plan {
             lines,
             is_given: true,
             is_open: is_open_by(words),
+            is_rounded: is_rounded_by(words, mem),
         }
     }
 

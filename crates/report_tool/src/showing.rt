@@ -34,10 +34,9 @@ fn json_line(
     requires { AreOf zones.now report.now }
     ensures { IfOk result (λ line. IsJsonLine path.now division.now zones.now better.now report.now line.items) }
 {
-    let line = json(alloc, path, division, zones, report, better)?;
-    let mut bytes = line.into_bytes();
-    bytes.push(b'\n')?;
-    Ok(bytes)
+    let mut line = json(alloc, path, division, zones, report, better)?;
+    line.push(b'\n')?;
+    Ok(line)
 }
 
 /// The report of zones, divided so, of the image at `path`, written in a format. A text has so many lines of the newest

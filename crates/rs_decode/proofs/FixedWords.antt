@@ -130,26 +130,37 @@ value_of-applied (f ∷ fs) w n x e a =
     ∙ ap (λ (k : ℕ). gf_add (gf_add (value_of w x) (gf_mul f.mask (gf_pow x (k - 1 - f.place)))) (fix_sum n fs x)) e
     ∙ add_assoc (value_of w x) (gf_mul f.mask (gf_pow x (n - 1 - f.place))) (fix_sum n fs x)
 
--- sums are the values of a word with its fixes
-pub record AreSums (n r : ℕ) (w : List ℕ) (fs : List Fix) (sums : List ℕ) : Type 0 where
+-- the first values of a word with its fixes are zero, and the sums are the others
+pub record AreSums (n first r : ℕ) (w : List ℕ) (fs : List Fix) (sums : List ℕ) : Type 0 where
   pub len : length w ≡ n
   pub inside : AllInside n fs
-  pub count : length sums ≡ r
-  pub at : (k : ℕ) → k < r → get_or sums k 0 ≡ gf_add (value_of w (gf_pow 2 k)) (fix_sum n fs (gf_pow 2 k))
+  pub count : first + length sums ≡ r
+  pub zeros : (k : ℕ) → k < first → gf_add (value_of w (gf_pow 2 k)) (fix_sum n fs (gf_pow 2 k)) ≡ 0
+  pub at : (k : ℕ) → k < length sums → get_or sums k 0
+      ≡ gf_add (value_of w (gf_pow 2 (first + k))) (fix_sum n fs (gf_pow 2 (first + k)))
 
 -- all zero exactly where the fixed word is a codeword
-pub codeword_from_sums : (n r : ℕ) (w : List ℕ) (fs : List Fix) (sums : List ℕ) → AreSums n r w fs sums
+pub codeword_from_sums : (n first r : ℕ) (w : List ℕ) (fs : List Fix) (sums : List ℕ) → AreSums n first r w fs sums
     → ((k : ℕ) → k < length sums → get_or sums k 0 ≡ 0) → HasRoots r (applied fs w)
-codeword_from_sums n r w fs sums h z = record {
-  at = λ i l. value_of-applied fs w n (gf_pow 2 i) h.len h.inside ∙ sym (h.at i l)
-      ∙ z i (let c = h.count in omega arith);
+codeword_from_sums n first r w fs sums h z = record {
+  at = λ i l. value_of-applied fs w n (gf_pow 2 i) h.len h.inside ∙ go i l (cases_lt i first);
 }
+  where
+    value : ℕ → ℕ
+    value i = gf_add (value_of w (gf_pow 2 i)) (fix_sum n fs (gf_pow 2 i))
 
-pub sums_of_codeword : (n r : ℕ) (w : List ℕ) (fs : List Fix) (sums : List ℕ) → AreSums n r w fs sums
+    go : (i : ℕ) → i < r → (i < first) ⊎ (first ≤ i) → value i ≡ 0
+    go i l (inl b) = h.zeros i b
+    go i l (inr b) =
+        let e : first + (i - first) ≡ i = omega arith in
+        let k : i - first < length sums = (let c = h.count in omega arith) in
+        ap value (sym e) ∙ sym (h.at (i - first) k) ∙ z (i - first) k
+
+pub sums_of_codeword : (n first r : ℕ) (w : List ℕ) (fs : List Fix) (sums : List ℕ) → AreSums n first r w fs sums
     → HasRoots r (applied fs w) → (k : ℕ) → k < length sums → get_or sums k 0 ≡ 0
-sums_of_codeword n r w fs sums h c k l =
-    let lr : k < r = (let e = h.count in omega arith) in
-    h.at k lr ∙ sym (value_of-applied fs w n (gf_pow 2 k) h.len h.inside) ∙ c.at k lr
+sums_of_codeword n first r w fs sums h c k l =
+    h.at k l ∙ sym (value_of-applied fs w n (gf_pow 2 (first + k)) h.len h.inside)
+    ∙ c.at (first + k) (let e = h.count in omega arith)
 
 pub applied_near : (t r n : ℕ) (w : List ℕ) (fs : List Fix) → Symbols w → AllInside n fs → length fs ≤ t
     → HasRoots r (applied fs w) → IsWithin t r w (applied fs w)

@@ -548,11 +548,14 @@ pub(crate) fn move_on(word: &mut [u8])
     }
 }
 
-fn row_at(i: usize) -> u128
-    requires { i < 512 }
-    ensures { result ≡ slice_index ROWS i }
+/// An entry of the table, by its power and its place among the 32 of that power.
+fn row_at(j: usize, n: usize) -> u128
+    requires j { j < 16 }
+    requires n { n < 32 }
+    ensures { result ≡ slice_index ROWS (32 * j + n) }
 {
-    ROWS[i]
+    let rows = &ROWS[32 * j..32 * j + 32];
+    rows[n]
 }
 
 /// The lane of `factor` times 2 to the 0, j, 2 j and so on.
@@ -560,8 +563,8 @@ fn row(j: usize, factor: u8) -> u128
     requires { j < 16 }
     ensures { (k p : ℕ) → k + p ≡ 15 → digit result p ≡ gf_mul factor (gf_pow (gf_pow 2 k) j) }
 {
-    let low = row_at(32 * j + (factor % 16) as usize);
-    let high = row_at(32 * j + 16 + (factor / 16) as usize);
+    let low = row_at(j, (factor % 16) as usize);
+    let high = row_at(j, 16 + (factor / 16) as usize);
     low ^ high
 }
 

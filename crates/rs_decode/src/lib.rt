@@ -328,7 +328,7 @@ fn few_roots(locator: &[u8], places: usize, powers: &mut ArrayVec<u8, 63>)
     let mut buffer = [0u8; 16];
     let terms = &mut buffer[..locator.len()];
     scale(locator, 256 - places, terms);
-    let mut found = [0u8; 256];
+    let mut found = [0u8; 32];
     let mut count = 0usize;
     for block in 0..places / 16 {
         if count >= degree {
@@ -380,13 +380,13 @@ fn log_gap(other: u8, power: u8) -> u8
     log(add(1, pow_ratio(other, power)))
 }
 
-/// The product of 1 + Y / X over the other locators Y.
+/// The logarithm of the product of 1 + Y / X over the other locators Y.
 fn ratio(powers: &[u8], power: u8) -> u8
     requires few { length powers.now ≤ 63 }
     requires own { power < 255 }
     requires below { Below255 powers.now }
-    ensures value { result ≡ gap_ratio powers.now power }
-    ensures some { result ≢ 0 }
+    ensures below { result < 255 }
+    ensures value { gf_pow 2 result ≡ gap_ratio powers.now power }
 {
     let mut sum = 0usize;
     for i in powers {
@@ -394,7 +394,7 @@ fn ratio(powers: &[u8], power: u8) -> u8
             sum += log_gap(*i, power) as usize;
         }
     }
-    antilog(sum)
+    (sum % 255) as u8
 }
 
 /// Forney's mask at a place where the evaluator has this value.
@@ -411,7 +411,7 @@ fn fix_of(value: u8, scale: u8, powers: &[u8], power: u8, places: usize) -> Fix
     let under = ratio(powers, power);
     Fix {
         place: (places - 1 - power as usize) as u8,
-        mask: mul(over, inv(under)),
+        mask: mul_pow(over, 255 - under),
     }
 }
 
@@ -472,11 +472,16 @@ fn candidate(t: usize, syndromes: &[u8], places: usize, fixes: &mut ArrayVec<Fix
     ensures inside { AllInside places fixes.new.items }
     ensures found { (D : List ℕ) → IsDamage t places syndromes.now D
         → (result ≡ true) × (fixes.new.items ≡ fixes_from places D) }
+    ensures sums { result ≡ true → (k : ℕ) → k < t + t
+        → fix_sum places fixes.new.items (gf_pow 2 k) ≡ slice_index syndromes.now k }
 {
     fixes.clear();
     let solution = solve(t, syndromes);
     let constant = last(solution.locator.as_slice());
     if constant == 0 {
+        return false;
+    }
+    if solution.evaluator.len() >= solution.locator.len() {
         return false;
     }
     let mut powers: ArrayVec<u8, 63> = ArrayVec::new();
@@ -669,27 +674,36 @@ fn add_terms(values: &mut [u8], mask_log: u8, power: u8)
     }
 }
 
-/// Adds to the values those of the mask at one power.
-fn add_fix(values: &mut [u8], mask: u8, power: u8)
-    requires { power < 255 }
+/// Adds to values at 2 to the `first`, to the next and so on those of the mask at one power.
+fn add_fix(values: &mut [u8], first: usize, mask: u8, power: u8)
+    requires first { first ≤ 127 }
+    requires power { power < 255 }
     ensures { (k : ℕ) → k < length values.new → slice_index values.new k
-        ≡ gf_add (slice_index values.old k) (gf_mul mask (gf_pow (gf_pow 2 power) k)) }
+        ≡ gf_add (slice_index values.old k) (gf_mul mask (gf_pow (gf_pow 2 power) (first + k))) }
 {
-    if mask == 0 {
+    let term = mul(mask, antilog(power as usize * first));
+    if term == 0 {
         return;
     }
-    add_terms(values, log(mask), power);
+    add_terms(values, log(term), power);
 }
 
-/// Adds to the values of a word, at 2 to the 0, 1 and so on, those of its fixes: they become those of the fixed word.
-fn add_fixes(values: &mut [u8], fixes: &[Fix], places: usize)
+/// Adds to the values of a word, at 2 to the `first`, to the next and so on, those of its fixes: they become those of the
+/// fixed word.
+fn add_fixes(values: &mut [u8], first: usize, fixes: &[Fix], places: usize)
+    requires first { first ≤ 127 }
     requires places { places ≤ 255 }
     requires inside { AllInside places fixes.now }
     ensures { (k : ℕ) → k < length values.new → slice_index values.new k
-        ≡ gf_add (slice_index values.old k) (fix_sum places fixes.now (gf_pow 2 k)) }
+        ≡ gf_add (slice_index values.old k) (fix_sum places fixes.now (gf_pow 2 (first + k))) }
 {
     for fix in fixes {
-        add_fix(values, fix.mask, (places - 1 - fix.place as usize) as u8);
+        add_fix(
+            values,
+            first,
+            fix.mask,
+            (places - 1 - fix.place as usize) as u8,
+        );
     }
 }
 
@@ -746,23 +760,39 @@ fn is_mended_by_parity(rows: &[u128], msg: &[u8], par: &[u8], fixes: &[Fix]) -> 
     is_parity_by(rows, front, back)
 }
 
-/// Tells whether the word with these values, and with the fixes, is a codeword. The values of few fixes take less time
-/// than the parity of a word by a table.
-fn is_mended(rows: &[u128], msg: &[u8], par: &[u8], values: &mut [u8], fixes: &[Fix]) -> bool
+/// Tells whether the word with these values, and with the fixes, is a codeword, where its first values are then zero. The
+/// values of few fixes take less time than the parity of a word by a table.
+fn is_mended(
+    rows: &[u128],
+    first: usize,
+    msg: &[u8],
+    par: &[u8],
+    values: &mut [u8],
+    fixes: &[Fix],
+) -> bool
     requires few { length par.now ≤ 127 }
     requires fits { length msg.now + length par.now ≤ 255 }
     requires table { IsLent (length par.now) rows.now }
+    requires first { first ≤ length par.now }
     requires len { length values.old ≡ length par.now }
     requires values { (k : ℕ) → k < length par.now → slice_index values.old k
         ≡ value_of (msg.now ++ par.now) (gf_pow 2 k) }
     requires inside { AllInside (length msg.now + length par.now) fixes.now }
+    requires short { length fixes.now ≤ 63 }
+    requires sums { (k : ℕ) → k < first
+        → fix_sum (length msg.now + length par.now) fixes.now (gf_pow 2 k) ≡ slice_index values.old k }
     ensures { IsTrue result ↔ HasRoots (length par.now) (applied fixes.now (msg.now ++ par.now)) }
 {
-    if fixes.len() > 10 && !rows.is_empty() {
+    let left = par.len() - first;
+    if left == 0 {
+        return true;
+    }
+    if left * fixes.len() > 160 && !rows.is_empty() {
         return is_mended_by_parity(rows, msg, par, fixes);
     }
-    add_fixes(values, fixes, msg.len() + par.len());
-    all_zero(values)
+    let rest = &mut values[first..];
+    add_fixes(rest, first, fixes, msg.len() + par.len());
+    all_zero(rest)
 }
 
 /// Finds the fixes that make the codeword within `most` places of the word with these values, where there is one.
@@ -801,7 +831,7 @@ fn corrected(
     if !found {
         return false;
     }
-    is_mended(rows, msg, par, values, fixes.as_slice())
+    is_mended(rows, most + most, msg, par, values, fixes.as_slice())
 }
 
 /// Corrects `msg`, read with the parity `par`, to the nearest codeword's data; `fixes` becomes the places of the whole

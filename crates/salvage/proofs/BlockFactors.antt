@@ -218,7 +218,7 @@ through H (x ∷ w) (y ∷ c) (z ∷ b) e e' =
         ≡ gf_add (gf_add (gf_mul h (gf_add x y)) s) (gf_add (gf_mul h (gf_add y z)) t)
     alg h x y z s t = simp ring
 
-between-through : (H : ℕ → ℕ) (w c b : List ℕ) (from to : ℕ) → length w ≡ length c → length c ≡ length b
+pub between-through : (H : ℕ → ℕ) (w c b : List ℕ) (from to : ℕ) → length w ≡ length c → length c ≡ length b
     → between H w b from to ≡ gf_add (between H w c from to) (between H c b from to)
 between-through H w c b from to e e' =
     ap₂ gf_add (drops from) (drops to)
@@ -236,15 +236,15 @@ between-through H w c b from to e e' =
     alg a a' d d' = simp ring
 
 -- ---- at most so many errors
-same_head : (x y : ℕ) (w c : List ℕ) → x ≡ y → distance (x ∷ w) (y ∷ c) ≡ distance w c
+pub same_head : (x y : ℕ) (w c : List ℕ) → x ≡ y → distance (x ∷ w) (y ∷ c) ≡ distance w c
 unfolding distance
 same_head x y w c e = ap (λ (b : Bool). (if b then 0 else 1) + distance w c) (eq-eqb x y e) ∙ omega arith
 
-other_head : (x y : ℕ) (w c : List ℕ) → x ≢ y → distance (x ∷ w) (y ∷ c) ≡ suc (distance w c)
+pub other_head : (x y : ℕ) (w c : List ℕ) → x ≢ y → distance (x ∷ w) (y ∷ c) ≡ suc (distance w c)
 unfolding distance
 other_head x y w c n = ap (λ (b : Bool). (if b then 0 else 1) + distance w c) (ne_eqb x y n) ∙ omega arith
 
-distance-drop : (m : ℕ) (w c : List ℕ) → length w ≡ length c → distance (drop m w) (drop m c) ≤ distance w c
+pub distance-drop : (m : ℕ) (w c : List ℕ) → length w ≡ length c → distance (drop m w) (drop m c) ≤ distance w c
 distance-drop zero w c e = omega arith
 distance-drop (suc m) [] [] e = omega arith
 distance-drop (suc m) [] (y ∷ c) e = absurd (omega arith)
@@ -256,7 +256,7 @@ distance-drop (suc m) (x ∷ w) (y ∷ c) e = by (cases_eq x y) (distance-drop m
     by (inl s) h = omega (arith, same_head x y w c s)
     by (inr n) h = omega (arith, other_head x y w c n)
 
-same_term : (H : ℕ → ℕ) (x y : ℕ) (w c v d : List ℕ) → x ≡ y
+pub same_term : (H : ℕ → ℕ) (x y : ℕ) (w c v d : List ℕ) → x ≡ y
     → gf_add (sum_of H (x ∷ w) (y ∷ c)) (sum_of H v d) ≡ gf_add (sum_of H w c) (sum_of H v d)
 unfolding sum_of
 same_term H x y w c v d e =
@@ -267,7 +267,7 @@ same_term H x y w c v d e =
     alg : (h s t : ℕ) → gf_add (gf_add (gf_mul h 0) s) t ≡ gf_add s t
     alg h s t = simp ring
 
-alone : (H : ℕ → ℕ) (x y : ℕ) (w c v d : List ℕ) → gf_add (sum_of H w c) (sum_of H v d) ≡ 0
+pub alone : (H : ℕ → ℕ) (x y : ℕ) (w c v d : List ℕ) → gf_add (sum_of H w c) (sum_of H v d) ≡ 0
     → gf_add (sum_of H (x ∷ w) (y ∷ c)) (sum_of H v d) ≡ gf_mul (H (length w)) (gf_add x y)
 unfolding sum_of
 alone H x y w c v d z =
@@ -275,7 +275,7 @@ alone H x y w c v d z =
     ∙ ap (gf_add (gf_mul (H (length w)) (gf_add x y))) z ∙ add_zero (gf_mul (H (length w)) (gf_add x y))
 
 -- H is zero at these powers
-unfoldable Vanish : (ℕ → ℕ) → List ℕ → Type 0
+unfoldable pub Vanish : (ℕ → ℕ) → List ℕ → Type 0
 Vanish H [] = Unit {0}
 Vanish H (p ∷ ps) = (H p ≡ 0) × Vanish H ps
 
@@ -289,7 +289,7 @@ length-zeros zero = refl
 length-zeros (suc n) = ap suc (length-zeros n)
 
 -- the powers of at most e places at which words differ: a sum that counts none of them is zero
-apart : (m e : ℕ) (w c : List ℕ) → length w ≡ length c → distance w c ≤ e + distance (drop m w) (drop m c)
+pub apart : (m e : ℕ) (w c : List ℕ) → length w ≡ length c → distance w c ≤ e + distance (drop m w) (drop m c)
     → (ps : List ℕ) × (length ps ≡ e)
     × ((H : ℕ → ℕ) → Vanish H ps → gf_add (sum_of H w c) (sum_of H (drop m w) (drop m c)) ≡ 0)
 unfolding Vanish
@@ -338,7 +338,7 @@ vanish_more m ms (p ∷ ps) v = (
   vanish_more m ms ps v.1,
 )
 
-vanish_own : (ps ms : List ℕ) → Vanish (product (ps ++ ms)) ps
+pub vanish_own : (ps ms : List ℕ) → Vanish (product (ps ++ ms)) ps
 unfolding product Vanish
 vanish_own [] ms = tt
 vanish_own (p ∷ ps) ms = (
@@ -346,7 +346,7 @@ vanish_own (p ∷ ps) ms = (
   vanish_more p (ps ++ ms) ps (vanish_own ps ms),
 )
 
-vanish_times : (ms : List ℕ) (i : ℕ) (ps : List ℕ) → Vanish (product ms) ps → Vanish (times_power ms i) ps
+pub vanish_times : (ms : List ℕ) (i : ℕ) (ps : List ℕ) → Vanish (product ms) ps → Vanish (times_power ms i) ps
 unfolding times_power Vanish
 vanish_times ms i [] v = tt
 vanish_times ms i (p ∷ ps) v = (
@@ -493,7 +493,7 @@ unfolding times_power
 times_zero ms i p z = ap (gf_mul (gf_pow (gf_pow 2 p) i)) z ∙ mul_zero (gf_pow (gf_pow 2 p) i)
 
 -- one power more that is not counted
-between_more : (m : ℕ) (ms : List ℕ) (i : ℕ) (w c : List ℕ) (from to : ℕ)
+pub between_more : (m : ℕ) (ms : List ℕ) (i : ℕ) (w c : List ℕ) (from to : ℕ)
     → between (times_power (m ∷ ms) i) w c from to
     ≡ gf_add (between (times_power ms (suc i)) w c from to) (gf_mul (gf_pow 2 m) (between (times_power ms i) w c from to))
 between_more m ms i w c from to =
@@ -528,7 +528,7 @@ module _ (ks : List (Option ℕ)) (r : ℕ) (b : Block) (is : IsBlock ks r b) (c
       by (Some k) e = inl (agree ks r c base hc hb j (omega (arith, hc.len)) (Some k) e (λ n. cc))
 
   -- the sums of a codeword are zero in the block too
-  between_none : (i : ℕ) → length is.others + i < r → between (times_power is.others i) c base b.from b.to ≡ 0
+  pub between_none : (i : ℕ) → length is.others + i < r → between (times_power is.others i) c base b.from b.to ≡ 0
   between_none i two =
       ap₂ gf_add
       (sym (quiet_front (times_power is.others i) c base b.from (omega (arith, hc.len, is.some, is.within)) same_length
@@ -616,6 +616,20 @@ pub unequal : (a b : ℕ) → IsTrue (not (nat_eq a b)) → a ≢ b
 unequal a b h e = (let t : not (nat_eq a b) ≡ false = ap not (eq-eqb a b e) in
     let bad : true ≡ false = sym h ∙ t in cc)
 
+-- no fewer errors stand from a place on than from a later one
+pub block_more : (word c : List ℕ) (from to : ℕ) → length word ≡ length c → from ≤ to
+    → 0 + distance (drop to word) (drop to c) ≤ distance (drop from word) (drop from c)
+block_more word c from to e l =
+    omega (
+      arith,
+      distance-drop (to - from) (drop from word) (drop from c)
+          (length-drop from word ∙ ap (λ (k : ℕ). k - from) e ∙ sym (length-drop from c)),
+      ap₂ distance (on word) (on c),
+    )
+  where
+    on : (v : List ℕ) → drop (to - from) (drop from v) ≡ drop to v
+    on v = drop-drop (to - from) from v ∙ ap (λ (n : ℕ). drop n v) (omega (arith, l))
+
 -- a block that begins where the last one ended or later
 pub one_block : (word c : List ℕ) (count least end from to : ℕ) → length word ≡ length c → end ≤ from
     → count + distance (drop end word) (drop end c) ≤ distance word c
@@ -640,16 +654,16 @@ own_block ks r i blocks items b ei each l eb =
     subst (IsBlock ks r) (sym eb) (All-get_or (IsBlock ks r) items i b l (subst (All (IsBlock ks r)) (sym ei) each))
 
 -- and of a sieve's blocks
-pub far_more : (ks : List (Option ℕ)) (r : ℕ) (b : Block) (word begun base c : List ℕ) (count end : ℕ)
+pub far_more : (ks : List (Option ℕ)) (r : ℕ) (b : Block) (word begun base c : List ℕ) (count told end : ℕ)
     → IsBlock ks r b → begun ≡ base → IsKnownWord ks r base → length word ≡ 12 + r → IsKnownWord ks r c → end ≤ b.from
     → count + distance (drop end word) (drop end c) ≤ distance word c
     → ((ks : List (Option ℕ)) (r : ℕ) (c : List ℕ) → length word ≡ 12 + r → IsBlock ks r b
     → IsKnownWord ks r begun → IsKnownWord ks r c
-    → b.least + distance (drop b.to word) (drop b.to c) ≤ distance (drop b.from word) (drop b.from c))
-    → count + b.least + distance (drop b.to word) (drop b.to c) ≤ distance word c
-far_more ks r b word begun base c count end is eb hb lw hc order far errs =
-    one_block word c count b.least end b.from b.to (lw ∙ sym hc.len) order far
-    (errs ks r c lw is (subst (IsKnownWord ks r) (sym eb) hb) hc)
+    → told + distance (drop b.to word) (drop b.to c) ≤ distance (drop b.from word) (drop b.from c))
+    → count + told + distance (drop b.to word) (drop b.to c) ≤ distance word c
+far_more ks r b word begun base c count told end is eb hb lw hc order far tells =
+    one_block word c count told end b.from b.to (lw ∙ sym hc.len) order far
+    (tells ks r c lw is (subst (IsKnownWord ks r) (sym eb) hb) hc)
 
 -- ---- the codeword of the known bytes
 put_in_twice : (ks : List (Option ℕ)) (w : List ℕ) → put_in ks (put_in ks w) ≡ put_in ks w

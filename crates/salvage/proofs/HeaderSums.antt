@@ -11,7 +11,6 @@ use Rattle.list_laws.proofs.Elements.{AllByRecursion-append, AllByRecursion_from
 use Rattle.zone_spec.specs.declared.Zone.{Zone}
 use Rattle.zone_spec.specs.declared.params.ByteOrder.{ByteOrder}
 use Rattle.zone_spec.specs.declared.params.ByteOrder.TheVariants.{Little, Big}
-use Rattle.zone_spec.specs.WordBytes.{turned}
 use Rattle.zone_spec.specs.declared.Words.{Words}
 use Rattle.zone_spec.specs.Zones.{IsValidZone}
 use Rattle.zone_spec.specs.Parts.{words_in}

@@ -8,4 +8,7 @@ pub mod ZoneShapes
 pub mod ScanRest
 pub mod PlaceReading
 pub mod BlockFactors
+pub mod Pairs
+pub mod BlockSums
+pub mod Marks
 pub mod Rows

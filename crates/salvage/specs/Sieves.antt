@@ -1,5 +1,5 @@
 -- What a sieve of headers' words is made of
-use Rattle.std.specs.Prelude.{◌≡◌, ◌≢◌, ℕ, suc, ◌+◌, ◌*◌, ◌^◌, ◌%◌, if◌then◌else◌, nat_lt, ◌-◌, ◌≤◌, ◌<◌, ◌⊎◌, List, []}
+use Rattle.std.specs.Prelude.{◌≡◌, ◌≢◌, ℕ, suc, ◌+◌, ◌*◌, ◌^◌, ◌%◌, if◌then◌else◌, nat_lt, ◌-◌, ◌≤◌, ◌<◌, ◌⊎◌, List, [], Bool, true, false}
 use Rattle.std.specs.Prelude.{◌∷◌, length, slice_index, slice_index_or, Option, None, All, MatchOption}
 use Rattle.code_spec.specs.Field.{gf_add, gf_mul, gf_pow}
 use Rattle.code_laws.proofs.Symbols.{HasRoots}
@@ -56,6 +56,24 @@ pub record AreFactors (q sums : List ℕ) : Type 0 where
   pub zero : (l : ℕ) → l + 1 < length q → dot q (slice_index sums) l ≡ 0
   pub some : dot q (slice_index sums) (length q - 1) ≢ 0
 
+-- the third sum of two errors at places of these powers, where the first sum is 1 and this is the second one
+unfoldable pub third : ℕ → ℕ → ℕ → ℕ
+third low high second =
+    gf_add (gf_mul (gf_pow 2 low) second) (gf_mul (gf_pow 2 high) (gf_add second (gf_pow 2 low)))
+
+-- what is 0 for the sums of errors at no more than places of these two powers
+unfoldable pub pair_sum : ℕ → ℕ → (ℕ → ℕ) → ℕ
+pair_sum x y s = gf_add (gf_add (s 2) (gf_mul (gf_pow 2 x) (s 1)))
+    (gf_mul (gf_pow 2 y) (gf_add (s 1) (gf_mul (gf_pow 2 x) (s 0))))
+
+-- the sums of errors at places of these powers are marked, for each ratio of the second sum to the first one
+abbrev pub AreMarked : List Bool → ℕ → ℕ → Type 0
+AreMarked marks x y = (second : ℕ) → second < 256 → slice_index_or marks (256 * second + third x y second) false ≡ true
+
+-- those of each pair of places with powers from low up to end
+abbrev pub AreMarks : ℕ → ℕ → List Bool → Type 0
+AreMarks low end marks = (x y : ℕ) → low ≤ x → x < y → y < end → AreMarked marks x y
+
 -- a codeword with the known bytes
 pub record IsKnownWord (ks : List (Option ℕ)) (r : ℕ) (c : List ℕ) : Type 0 where
   pub len : length c ≡ 12 + r
@@ -66,13 +84,14 @@ abbrev pub IsOutside : ℕ → ℕ → ℕ → Type 0
 IsOutside from to j = (j < from) ⊎ (to ≤ j)
 
 -- the rows of a block are of weights. These are of powers that are few enough for the sums of codewords to be zero, and
--- among which are those of all other unknown places. Twice as many sums less one tell of so many errors at least
+-- among which are those of all other unknown places. Twice as many sums less one tell of so many errors at least. Where
+-- these are two, each pair of the block's places is marked
 pub record IsBlock (ks : List (Option ℕ)) (r : ℕ) (b : Block) : Type 0 where
   pub others : List ℕ
   pub few : length others + 2 * b.least ≤ r + 1
   pub one : 1 ≤ b.least
   pub four : b.least ≤ 4
-  pub some : b.from < b.to
+  pub some : b.from + 1 < b.to
   pub short : b.to ≤ b.from + 16
   pub within : b.to ≤ 12 + r
   pub weights : List Weight
@@ -82,6 +101,8 @@ pub record IsBlock (ks : List (Option ℕ)) (r : ℕ) (b : Block) : Type 0 where
   pub full : length b.rows.items ≡ 512
   pub outside : (j : ℕ) → j < 12 + r → IsOutside b.from b.to j → slice_index_or ks j None ≡ None
       → product others (11 + r - j) ≡ 0
+  pub marks : b.least ≡ 2 → AreMarks (12 + r - b.to) (12 + r - b.from) b.marks.items
+  pub marked : b.least ≡ 2 → length b.marks.items ≡ 65536
 
 -- the known bytes of a sieve, and how many symbols of parity
 pub record Sifted : Type 0 where

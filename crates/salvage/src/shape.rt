@@ -16,7 +16,7 @@ use std::marker::Model;
 use zone_spec::Zone;
 
 /// A shape, by its first zone. It holds the bytes of a ring's header that are known, and, where there is parity, its
-/// encoder, some 4 KiB, and a sieve of the headers, up to 64 KiB on the heap.
+/// encoder, some 4 KiB, and a sieve of the headers, up to 900 KiB on the heap.
 #[derive(Drop)]
 pub struct Shape {
     zone: Zone,

@@ -5,19 +5,23 @@
 // symbols of a codeword add up to 0. So the weighted sum of a word tells of the errors in the block alone. The sums with
 // one, two and more powers of the place's locator as a further weight follow a recurrence that has a term for each
 // error. So 2e - 1 sums tell whether there are fewer than e errors.
+//
+// Three sums tell more than whether there is one error. Two errors at given places determine the third sum by the first
+// two. So for each pair of a block's places and each ratio of the first two sums the third is marked. Sums that are not
+// marked are of three errors at least.
 ghost use Rattle.std.specs.Prelude.{◌≡◌, ◌+◌, ◌*◌, ◌-◌, ◌≤◌, ◌<◌, ◌↔◌, ℕ, slice_index, ◌^◌, bit_xor, ◌++◌, length};
 ghost use Rattle.std.specs.Prelude.{replicate, drop, slice_index_or, List, true, false, IsTrue, Option, None, All};
-ghost use Rattle.std.specs.Prelude.{IfSome, IfOk};
+ghost use Rattle.std.specs.Prelude.{IfSome, IfOk, ◌≢◌};
 ghost use Rattle.code_spec.specs.Field.{gf_add, gf_mul, gf_pow};
 ghost use Rattle.code_spec.specs.Code.{distance};
 ghost use Rattle.rs_encode.specs.Lanes.{IsMultiple, digit};
 ghost use Rattle.salvage_laws.specs.Known.{put_in};
 ghost use Rattle.salvage.specs.Sieves.{AreFactors, AreRows, factor_of, IsBlock, IsKnownWord, IsOutside, IsWeight, dot};
-ghost use Rattle.salvage.specs.Sieves.{none, product, sum_at};
+ghost use Rattle.salvage.specs.Sieves.{none, product, sum_at, third, pair_sum, AreMarks, AreMarked};
 
 use crate::header::amend;
 use arrayvec::ArrayVec;
-use gf256::{add, alpha_pow, mul};
+use gf256::{add, alpha_pow, inv, mul};
 use rs_encode::Parity;
 use std::alloc::{AllocError, Global};
 use std::marker::Model;
@@ -29,13 +33,15 @@ pub struct Weight {
 }
 
 /// The places from `from` up to `to`, and for each the multiples of its weight by the halves of a byte. Their sums tell
-/// of `least` errors.
+/// of `least` errors. Where that is two they tell of a third by marks: those of two errors' sums. A mark's index is the
+/// ratio of the second sum to the first one times 256, and the ratio of the third one.
 #[derive(Drop)]
 pub struct Block {
     pub from: usize,
     pub to: usize,
     pub least: usize,
     pub rows: Vec<u128>,
+    pub marks: Vec<bool>,
 }
 
 /// Blocks of the places of a header's word, and a codeword with the known bytes.
@@ -178,6 +184,79 @@ fn rows_of(alloc: Global, weights: &[Weight]) -> Result<Vec<u128>, AllocError>
     Ok(rows)
 }
 
+/// Where the mark of two ratios of sums stands.
+fn mark_place(second: u8, third: u8) -> usize
+    ensures { result ≡ 256 * second + third }
+{
+    256 * second as usize + third as usize
+}
+
+/// The third sum of two errors at places of these powers, where the first sum is 1.
+fn third(low: u8, high: u8, second: u8) -> u8
+    ensures { result ≡ third low high second }
+{
+    let x = alpha_pow(low);
+    add(mul(x, second), mul(alpha_pow(high), add(second, x)))
+}
+
+/// Marks the sums of two errors at places of these powers.
+fn mark_pair(marks: &mut [bool], low: u8, high: u8)
+    requires { length marks.old ≡ 65536 }
+    ensures len { length marks.new ≡ 65536 }
+    ensures kept { (j : ℕ) → slice_index_or marks.old j false ≡ true → slice_index_or marks.new j false ≡ true }
+    ensures pair { AreMarked marks.new low high }
+{
+    for i in 0..256usize {
+        let place = mark_place(i as u8, third(low, high, i as u8));
+        marks[place] = true;
+    }
+}
+
+/// Marks the sums of errors at a place of power `high` and at one of a lower power, from `low` on.
+fn mark_below(marks: &mut [bool], low: u8, high: u8)
+    requires { length marks.old ≡ 65536 }
+    ensures len { length marks.new ≡ 65536 }
+    ensures kept { (j : ℕ) → slice_index_or marks.old j false ≡ true → slice_index_or marks.new j false ≡ true }
+    ensures pairs { (x : ℕ) → low ≤ x → x < high → AreMarked marks.new x high }
+{
+    for x in low..high {
+        mark_pair(marks, x, high);
+    }
+}
+
+/// Marks the sums of errors at each two places of powers from `low` up to `end`.
+fn mark_all(marks: &mut [bool], low: u8, end: u8)
+    requires { length marks.old ≡ 65536 }
+    ensures len { length marks.new ≡ 65536 }
+    ensures all { AreMarks low end marks.new }
+{
+    for y in low..end {
+        mark_below(marks, low, y);
+    }
+}
+
+/// The marks of a block whose places have the powers from `low` up to `end`, 64 KiB.
+fn marks_of(alloc: Global, low: u8, end: u8) -> Result<Vec<bool>, AllocError>
+    ensures marks { IfOk result (λ marks. AreMarks low end marks.items) }
+    ensures len { IfOk result (λ marks. length marks.items ≡ 65536) }
+{
+    let mut marks = Vec::from_elem(alloc, false, 65536)?;
+    mark_all(&mut marks, low, end);
+    Ok(marks)
+}
+
+/// The marks where two errors are told of, and none otherwise.
+fn marks_for(alloc: Global, least: usize, low: u8, end: u8) -> Result<Vec<bool>, AllocError>
+    ensures marks { IfOk result (λ marks. least ≡ 2 → AreMarks low end marks.items) }
+    ensures len { IfOk result (λ marks. least ≡ 2 → length marks.items ≡ 65536) }
+{
+    if least == 2 {
+        marks_of(alloc, low, end)
+    } else {
+        Ok(Vec::new(alloc))
+    }
+}
+
 /// The block of these places that tells of so many errors, where there is parity for its sums.
 fn block_of(
     alloc: Global,
@@ -191,7 +270,7 @@ fn block_of(
     ensures { IfOk result (λ block. IfSome block (IsBlock known.now parity)) }
 {
     let places = 12 + parity;
-    if to <= from || to - from > 16 || places < to || least < 1 || least > 4 {
+    if to <= from || to - from < 2 || to - from > 16 || places < to || least < 1 || least > 4 {
         return Ok(None);
     }
     let others = powers_outside(known, places, from, to);
@@ -200,11 +279,13 @@ fn block_of(
     }
     let weights = weights_of(others.as_slice(), places - 1 - from, to - from);
     let rows = rows_of(alloc, &weights)?;
+    let marks = marks_for(alloc, least, (places - to) as u8, (places - from) as u8)?;
     Ok(Some(Block {
         from,
         to,
         least,
         rows,
+        marks,
     }))
 }
 
@@ -253,7 +334,7 @@ fn blocks_of(
 {
     let mut blocks = Vec::new(alloc);
     let mut from = 4;
-    for i in 0..8usize {
+    for i in 0..12usize {
         let least = least_from(from, 12 + parity, most, spare(known));
         let to = end_of(from, least, spare(known));
         if let Some(block) = block_of(alloc, known, parity, from, to, least)? {
@@ -415,9 +496,32 @@ fn factors_of(s: &[u8; 16], count: usize) -> [u8; 4]
     }
 }
 
-/// Whether each codeword with the known bytes differs from the word in as many places of the block as it tells of. Few
-/// words that do so are not told.
-fn errs(block: &Block, word: &[u8], base: &[u8]) -> bool
+/// The byte of a lane that is worth 256 to the `place`.
+fn byte_of(lane: u128, place: u32) -> u8
+    requires { place ≤ 15 }
+    ensures { result ≡ digit lane place }
+{
+    ((lane >> (8 * place)) % 256) as u8
+}
+
+/// Whether the sums of this lane may be of two errors, by marks of a block's pairs.
+fn may_be_two(marks: &[bool], lane: u128) -> bool
+    requires { length marks.now ≡ 65536 }
+    ensures { result ≡ false → (low end x y : ℕ) → AreMarks low end marks.now → low ≤ x → x < y → y < end
+        → pair_sum x y (λ i. digit lane (15 - i)) ≢ 0 }
+{
+    let first = byte_of(lane, 15);
+    if first == 0 {
+        return true;
+    }
+    let scale = inv(first);
+    let second = mul(scale, byte_of(lane, 14));
+    marks[mark_place(second, mul(scale, byte_of(lane, 13)))]
+}
+
+/// In how many places of the block at least each codeword with the known bytes differs from the word. It may tell of
+/// fewer than there are.
+fn told(block: &Block, word: &[u8], base: &[u8]) -> usize
     requires order { block.now.from ≤ block.now.to }
     requires short { block.now.to ≤ block.now.from + 16 }
     requires one { 1 ≤ block.now.least }
@@ -425,19 +529,28 @@ fn errs(block: &Block, word: &[u8], base: &[u8]) -> bool
     requires within { block.now.to ≤ length word.now }
     requires base { length base.now ≡ length word.now }
     requires rows { length block.now.rows.items ≡ 512 }
-    ensures { IsTrue result → (ks : List (Option ℕ)) (r : ℕ) (c : List ℕ) → length word.now ≡ 12 + r
+    requires marks { block.now.least ≡ 2 → length block.now.marks.items ≡ 65536 }
+    ensures few { result ≤ 4 }
+    ensures told { (ks : List (Option ℕ)) (r : ℕ) (c : List ℕ) → length word.now ≡ 12 + r
         → IsBlock ks r block.now → IsKnownWord ks r base.now → IsKnownWord ks r c
-        → block.now.least + distance (drop block.now.to word.now) (drop block.now.to c)
+        → result + distance (drop block.now.to word.now) (drop block.now.to c)
         ≤ distance (drop block.now.from word.now) (drop block.now.from c) }
 {
-    let sums = sums_of(
+    let lane = sums_of(
         block.rows.as_slice(),
         &word[block.from..block.to],
         &base[block.from..block.to],
     );
-    let sums = sums.to_be_bytes();
+    if block.least == 2 && !may_be_two(block.marks.as_slice(), lane) {
+        return 3;
+    }
+    let sums = lane.to_be_bytes();
     let factors = factors_of(&sums, block.least);
-    are_factors(&factors[..block.least], &sums)
+    if are_factors(&factors[..block.least], &sums) {
+        block.least
+    } else {
+        0
+    }
 }
 
 /// The fewest errors of which a sieve must tell: one more than the decoder may mend where all known bytes differed, as
@@ -446,19 +559,28 @@ fn wanted(known: &[Option<u8>; 12], parity: usize) -> usize {
     (parity / 2 + spare(known)).saturating_sub(10)
 }
 
-/// Of how many errors a block tells, such that the blocks tell of as many as are wanted.
+/// Of how many errors a block tells by its sums alone, such that the blocks tell of as many as are wanted: two, where a
+/// third by marks is enough.
 fn most_told(known: &[Option<u8>; 12], parity: usize) -> usize
     ensures { result ≤ 4 }
 {
-    let blocks = if spare(known) == 3 { 6 } else { 3 };
-    wanted(known, parity).div_ceil(blocks).clamp(2, 4)
+    if spare(known) == 3 || parity < 32 {
+        2
+    } else {
+        4
+    }
+}
+
+/// Of how many errors the block may tell.
+fn most_of(block: &Block) -> usize {
+    if block.least == 2 { 3 } else { block.least }
 }
 
 /// Of how many errors the blocks tell together.
 fn all_told(blocks: &[Block]) -> usize {
     let mut told = 0usize;
     for block in blocks {
-        told = told.saturating_add(block.least);
+        told = told.saturating_add(most_of(block));
     }
     told
 }
@@ -498,10 +620,10 @@ impl Sieve {
         let mut count = 0usize;
         let mut end = 0usize;
         for block in self.blocks.as_slice() {
-            if block.from < end || !errs(block, word, self.base.as_slice()) {
+            if block.from < end {
                 return false;
             }
-            count += block.least;
+            count += told(block, word, self.base.as_slice());
             if most < count {
                 return true;
             }

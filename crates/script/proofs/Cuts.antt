@@ -1,7 +1,8 @@
 -- A list that is cut at each byte that is a mark
-use Rattle.std.proofs.Common.{◌≡◌, ℕ, ◌+◌, ◌<◌, ◌==◌, Bool, false, List, [], ◌∷◌, length, take, drop, get_or, sym, ap}
+use Rattle.std.proofs.Common.{◌≡◌, ℕ, ◌+◌, ◌<◌, ◌==◌, Bool, false, List, [], ◌∷◌, ◌++◌, length, length-append, take, drop, get_or, sym, ap}
 use Rattle.std.proofs.Common.{◌∙◌, arith, inl, inr}
 use Rattle.std.specs.List.{slice_split, position_or_len}
+use Rattle.std.proofs.lemmas.List.{get_or_append_left, take-append-le, drop-append-le}
 use Rattle.std.proofs.lemmas.List.Splits.{slice_split_first, slice_split_none, length-slice_split}
 use Rattle.std.proofs.lemmas.List.Elements.{All-from_get_or}
 use Rattle.std.proofs.lemmas.List.Sums.{fails_before_first, passes_at_first}
@@ -31,6 +32,26 @@ cut_at c xs k h is =
     let e : position_or_len p xs ≡ k = first_place c xs k h is in
     slice_split_first p xs 0 (omega (arith, e, inside))
     ∙ ap (λ (n : ℕ). take n xs ∷ slice_split p (drop (n + 1) xs)) e
+
+-- and so whatever stands behind
+pub cut_further : (c : ℕ) (xs more : List ℕ) (k : ℕ) → NoneBefore (Passes (is_byte c) xs) 0 (length xs) k
+    → Passes (is_byte c) xs k
+    → slice_split (λ b. b == c) (xs ++ more) ≡ take k xs ∷ slice_split (λ b. b == c) (drop (k + 1) xs ++ more)
+cut_further c xs more k h is =
+    let inside = h.high in
+    let same : (j : ℕ) → j < length xs → get_or (xs ++ more) j 0 ≡ get_or xs j 0 =
+    λ j lt. get_or_append_left xs more 0 j lt in
+    let first : NoneBefore (Passes (is_byte c) (xs ++ more)) 0 (length (xs ++ more)) k = record {
+      low = h.low;
+      high = omega (arith, inside, length-append xs more);
+      before = λ j low high passes. h.before j low high
+          (ap (is_byte c) (sym (same j (omega (arith, high, inside)))) ∙ passes);
+    } in
+    cut_at c (xs ++ more) k first (ap (is_byte c) (same k inside) ∙ is)
+    ∙ ap (λ (ys : List ℕ). ys ∷ slice_split (λ b. b == c) (drop (k + 1) (xs ++ more)))
+    (take-append-le k xs more (omega (arith, inside)))
+    ∙ ap (λ (ys : List ℕ). take k xs ∷ slice_split (λ b. b == c) ys)
+    (drop-append-le (k + 1) xs more (omega (arith, inside)))
 
 -- and where none stands, the list is the one part
 pub cut_nowhere : (c : ℕ) (xs : List ℕ) → Nowhere (Passes (is_byte c) xs) 0 (length xs)

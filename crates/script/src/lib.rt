@@ -13,4 +13,4 @@ pub use fields::{number, zone};
 pub use grammar_spec::Line;
 pub use lines::Lines;
 pub use printing::{print, printed_is_read};
-pub use reading::{ParseFault, parse};
+pub use reading::{ParseFault, Reading, parse};

@@ -1,5 +1,5 @@
 // The lines of the table, by their fields.
-ghost use Rattle.std.specs.Prelude.{◌≡◌, ◌<◌, ◌==◌, ◌∷◌, [], length, nat_le, MatchOption, IfSome, IfNone};
+ghost use Rattle.std.specs.Prelude.{◌≡◌, ◌<◌, ◌==◌, ℕ, List, ◌++◌, ◌∷◌, [], length, nat_le, MatchOption, IfSome, IfNone};
 ghost use Rattle.std.specs.List.{slice_split, list_all};
 ghost use Rattle.grammar_spec.specs.Groups.{one, two, three, four, five, ring_hex, time_flag_hex, one_zone, one_number};
 ghost use Rattle.grammar_spec.specs.Groups.{one_name, one_message, one_some_bytes};
@@ -35,6 +35,8 @@ pub fn cut(text: &[u8], mark: u8) -> Option<(&[u8], &[u8])>
     ensures none { IfNone result (slice_split (λ b. b == mark) text.now ≡ text.now ∷ []) }
     ensures parts { IfSome result (λ parts. slice_split (λ b. b == mark) text.now
         ≡ parts.0.now ∷ slice_split (λ b. b == mark) parts.1.now) }
+    ensures further { IfSome result (λ parts. (more : List ℕ) → slice_split (λ b. b == mark) (text.now ++ more)
+        ≡ parts.0.now ∷ slice_split (λ b. b == mark) (parts.1.now ++ more)) }
     ensures shorter { IfSome result (λ parts. length parts.1.now < length text.now) }
 {
     let at = memchr(mark, text)?;

@@ -18,3 +18,6 @@ pub mod LeftCounts
 pub mod DumpParts
 pub mod Data
 pub mod Small
+pub mod PlainStores
+pub mod WholeRuns
+pub mod WholeTaken

@@ -7,3 +7,5 @@ pub mod Counts
 pub mod PairSteps
 pub mod Handed
 pub mod LeftCounts
+pub mod PlainAppends
+pub mod Whole

@@ -5,10 +5,12 @@
 mod counts;
 mod kept;
 mod place;
+mod plain;
 mod steps;
 mod store;
 
 pub use place::{Leg, Phase, Place};
+pub use plain::Whole;
 pub use steps::Steps;
 pub use store::{Given, Store};
 pub use zone_spec::{CallKind, Words, Zone};

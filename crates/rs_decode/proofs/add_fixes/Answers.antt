@@ -20,8 +20,8 @@ loop-fix-preserved c =
     let lt : i < length fs = omega arith in
     let next : suc i ≡ i + 1 = omega arith in record {
       inside = grind (arith, common_steps);
-      sums = λ k l. sum_step n k (n - 1 - f.place) (get_or c.loop-fix.values k 0) (get_or c.add_fix.new.values k 0)
-          (gf_add (get_or c.args.values.now k 0) (fix_sum n fs (gf_pow 2 k))) f (drop i fs) (drop (i + 1) fs)
+      sums = λ k l. sum_step n (c.args.first + k) (n - 1 - f.place) (get_or c.loop-fix.values k 0) (get_or c.add_fix.new.values k 0)
+          (gf_add (get_or c.args.values.now k 0) (fix_sum n fs (gf_pow 2 (c.args.first + k)))) f (drop i fs) (drop (i + 1) fs)
           (drop-cons fs i d lt ∙ ap (λ (j : ℕ). f ∷ drop j fs) next) (c.add_fix.ensures k l) refl
           (c.loop-fix.invariant.sums k (omega arith));
     }
@@ -29,7 +29,7 @@ loop-fix-preserved c =
 pub returns : goal.returns
 returns c = λ k l.
     let past : length c.args.fixes.now ≤ c.loop-fix.fix-index = omega arith in
-    sum_end c.args.places (gf_pow 2 k) (get_or c.loop-fix.values k 0)
-    (gf_add (get_or c.args.values.now k 0) (fix_sum c.args.places c.args.fixes.now (gf_pow 2 k)))
+    sum_end c.args.places (gf_pow 2 (c.args.first + k)) (get_or c.loop-fix.values k 0)
+    (gf_add (get_or c.args.values.now k 0) (fix_sum c.args.places c.args.fixes.now (gf_pow 2 (c.args.first + k))))
     (drop c.loop-fix.fix-index c.args.fixes.now) (drop_all c.loop-fix.fix-index c.args.fixes.now past)
     (c.loop-fix.invariant.sums k l)

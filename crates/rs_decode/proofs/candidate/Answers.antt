@@ -1,15 +1,18 @@
 -- A locator with no constant has no such fixes; else Chien's places and Forney's masks are the
 -- only ones. For `candidate`.
-use Rattle.std.proofs.Common.{◌≡◌, ℕ, ◌≤◌, ◌+◌, ◌-◌, List, length, take, arith, sym, ap, ◌∙◌, subst₂, refl, length-take}
+use Rattle.std.proofs.Common.{◌≡◌, ℕ, ◌≤◌, ◌<◌, ◌+◌, ◌-◌, List, length, take, arith, sym, ap, ◌∙◌, subst, subst₂, refl}
+use Rattle.std.proofs.Common.{length-take}
 use Rattle.code_spec.specs.Field.{gf_mul}
-use Rattle.code_laws.proofs.Ring.{zero_mul}
+use Rattle.code_laws.proofs.Ring.{zero_mul, mul_comm}
 use Rattle.decoder_laws.specs.Polynomials.{poly}
 use Rattle.rs_decode.specs.Fixes.{AreFixes}
+use Rattle.rs_decode.specs.declared.Fix.{Fix}
 use Rattle.decoder_laws.specs.Chien.{roots_of}
 use Rattle.decoder_laws.proofs.Damage.{found_of}
 use Rattle.decoder_laws.proofs.Chien.{found_count, own_roots_below}
 use Rattle.rs_decode.proofs.Fixes.{found_fixes, are_fixes-length, are_fixes-inside}
 use Rattle.decoder_laws.proofs.Powers.{inverse_is_unique}
+use Rattle.rs_decode.proofs.Mended.{sums_are_syndromes, found_are_roots}
 use Rattle.rs_decode.proofs.candidate.Goals as goal
 
 no_constant : (k a c : ℕ) → k ≡ a → k ≡ 0 → gf_mul a c ≡ 1 → ⊥
@@ -36,12 +39,27 @@ returns-then-len-clause-found c = λ D g.
     let f = found_of c.args.t c.args.places c.args.syndromes.now v c.solve-solution.result.evaluator.items D
     c.requires.places
     c.requires.len c.solve-solution.ensures g in
+    absurd (omega (
+      arith,
+      c.if-len.true,
+      c.len.ensures.value,
+      c.len-2.ensures.value,
+      f.1.r_low,
+      f.1.degree,
+    ))
+
+pub returns-then-len-2-clause-found : goal.returns-then-len-2-clause-found
+returns-then-len-2-clause-found c = λ D g.
+    let v : List ℕ = c.solve-solution.result.locator.items in
+    let f = found_of c.args.t c.args.places c.args.syndromes.now v c.solve-solution.result.evaluator.items D
+    c.requires.places
+    c.requires.len c.solve-solution.ensures g in
     let n : length c.own_roots.new.powers.items + 1 ≡ length v =
     found_count c.args.places f.0 v c.solve-solution.result.evaluator.items D c.own_roots.new.powers.items (sym g.len)
     f.1
     (own c.as_slice-2.result.now v c.own_roots.new.powers.items c.args.places c.as_slice-2.ensures.value
     c.own_roots.ensures) in
-    absurd (omega (arith, c.if-len.true, c.len.ensures.value, c.len-2.ensures.value))
+    absurd (omega (arith, n, c.if-len-2.true, c.len-3.ensures.value, c.len-4.ensures.value))
 
 pub fill-requires-clause-inside : goal.fill-requires-clause-inside
 fill-requires-clause-inside c =
@@ -91,3 +109,42 @@ returns-clause-found c = λ D g.
           (own c.as_slice-2.result.now v c.as_slice-4.result.now c.args.places c.as_slice-2.ensures.value
           (c.as_slice-4.ensures.value ∙ c.own_roots.ensures)) are,
     )
+
+-- as many powers as the degree, if there are not fewer
+all_found : (u v ps : List ℕ) (n : ℕ) → u ≡ v → 0 < length v → ps ≡ take (length u - 1) (roots_of u n)
+    → length v ≤ length ps + 1 → length ps + 1 ≡ length v
+all_found u v ps n e some h l =
+    omega (
+      arith,
+      some,
+      l,
+      ap length (own u v ps n e h),
+      length-take (length v - 1) (roots_of v n),
+    )
+
+pub returns-clause-sums : goal.returns-clause-sums
+returns-clause-sums c = λ _.
+    let v : List ℕ = c.solve-solution.result.locator.items in
+    let r : List ℕ = c.solve-solution.result.evaluator.items in
+    let ps : List ℕ = c.as_slice-4.result.now in
+    let fs : List Fix = c.fill.new.fixes.items in
+    let powers : ps ≡ take (length c.as_slice-2.result.now - 1) (roots_of c.as_slice-2.result.now c.args.places) =
+    c.as_slice-4.ensures.value ∙ c.own_roots.ensures in
+    let are : AreFixes c.args.places c.inv.result r ps ps fs =
+    subst (λ (u : List ℕ). AreFixes c.args.places c.inv.result u ps ps fs) c.as_slice-3.ensures.value c.fill.ensures in
+    sums_are_syndromes c.args.t c.args.places c.inv.result c.args.syndromes.now v r ps fs c.requires.places
+    c.requires.len (λ k. (c.type_inv.syndromes k).fits) c.solve-solution.ensures
+    (mul_comm c.inv.result (poly v 0) ∙ ap (λ (x : ℕ). gf_mul x c.inv.result)
+    (sym (c.last-constant.ensures ∙ ap (λ (u : List ℕ). poly u 0) c.as_slice.ensures.value)) ∙ c.inv.ensures)
+    (omega (arith, c.if-len.false, c.len.ensures.value, c.len-2.ensures.value))
+    (all_found c.as_slice-2.result.now v ps c.args.places c.as_slice-2.ensures.value
+    (omega (arith, c.solve-solution.ensures.degree)) powers
+    (omega (
+      arith,
+      c.if-len-2.false,
+      c.len-3.ensures.value,
+      c.len-4.ensures.value,
+      ap length c.as_slice-4.ensures.value,
+    )))
+    (found_are_roots v c.args.places (length v - 1) ps
+    (own c.as_slice-2.result.now v ps c.args.places c.as_slice-2.ensures.value powers)) are

@@ -28,7 +28,7 @@ loop-block-preserved c =
           (c.move_on.ensures j (omega (arith, c.move_on.auto.word, inv.len, l))
           ∙ ap (λ (x : ℕ). gf_mul (get_or terms j 0) (gf_pow 2 (16 * (x - 1 - j)))) inv.len)
           (inv.terms j l);
-      few = omega (arith, c.take_roots-count.ensures.more, inv.few, lv);
+      few = omega (arith, c.take_roots-count.ensures.more, c.if-count-degree.false, lv);
       room = omega (arith, c.take_roots-count.auto.found, inv.room);
       roots = ap (λ (x : ℕ). take c.take_roots-count.result c.take_roots-count.new.found ++ roots_of v x)
           (let e : n - 16 * (i + 1) ≡ n - 16 * i - length values = omega (arith, lv) in e)
@@ -69,15 +69,14 @@ returns c =
             arith,
             w.take_roots-count-then-count-degree-2.ensures.more,
             w.take_roots-count-then-count-degree-2.auto.found,
-            inv.few,
+            w.if-count-degree-2.true,
             inv.room,
             lv,
-            last,
-            c.requires.places,
+            c.requires.few,
           ))
           whole (inr none)
       | else-count-degree-2 w ↦
           ap₂ (λ (k : ℕ) (f : List ℕ). take (min k d) f) w.count-is w.found-is
           ∙ enough d c.loop-block.count c.loop-block.found (roots_of v (n - 16 * i)) (roots_of v n)
-          (omega (arith, inv.few, inv.room, last, c.requires.places)) inv.roots (inl w.if-count-degree-2.false)
+          (omega (arith, inv.few, inv.room, c.requires.few)) inv.roots (inl w.if-count-degree-2.false)
     ]

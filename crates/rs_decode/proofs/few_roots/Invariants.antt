@@ -10,7 +10,7 @@ invariant-loop-block l = record {
   len : length l.terms ≡ length l.locator;
   terms : (i : ℕ) → i < length l.locator → get_or l.terms i 0 ≡ gf_mul (get_or l.locator i 0)
       (gf_pow 2 ((256 - l.places + 16 * l.block) * (length l.locator - 1 - i)));
-  few : l.count ≤ 16 * l.block;
-  room : length l.found ≡ 256;
+  few : l.count ≤ length l.locator + 14;
+  room : length l.found ≡ 32;
   roots : take l.count l.found ++ roots_of l.locator (l.places - 16 * l.block) ≡ roots_of l.locator l.places;
 }

@@ -1,11 +1,13 @@
 -- The power's own locator is passed over, and each other one adds the logarithm of its gap. For
 -- `ratio`.
-use Rattle.std.proofs.Common.{◌≡◌, ◌≢◌, ℕ, ◌<◌, ◌≤◌, ◌+◌, ◌-◌, List, get_or, drop, length, arith, sym, ap, ap₂, ◌∙◌}
+use Rattle.std.proofs.Common.{◌≡◌, ◌≢◌, ℕ, zero, suc, ◌<◌, ◌≤◌, ◌+◌, ◌-◌, ◌*◌, ◌/◌, ◌%◌, List, get_or, drop}
+use Rattle.std.proofs.Common.{length, arith, refl, sym, ap, ap₂, ◌∙◌}
 use Rattle.std.proofs.lemmas.List.{drop_more, drop_all}
 use Rattle.code_spec.specs.Field.{gf_add, gf_mul, gf_pow}
 use Rattle.code_laws.proofs.Ring.{one_mul, mul_one, mul_assoc, pow_zero, pow_add, pow_below}
 use Rattle.decoder_laws.specs.Forney.{gap_ratio}
-use Rattle.decoder_laws.proofs.Forney.{gap_ratio_own, gap_ratio_other, gap_ratio_below, gap_ratio_some, below_255-at}
+use Rattle.decoder_laws.proofs.Forney.{gap_ratio_own, gap_ratio_other, gap_ratio_below, below_255-at}
+use Rattle.decoder_laws.proofs.Powers.{pow_wrapped}
 use Rattle.rs_decode.proofs.ratio.Goals as goal
 use Rattle.rs_decode.proofs.ratio.Goals.{then-i-power, else-i-power}
 
@@ -52,16 +54,21 @@ loop-i-preserved c = elim c.if-i-power.branch [
   }
 ]
 
-whole : (js : List ℕ) (i j s r : ℕ) → length js ≤ i → r ≡ gf_pow 2 s
-    → gf_mul (gf_pow 2 s) (gap_ratio (drop i js) j) ≡ gap_ratio js j → r ≡ gap_ratio js j
+-- whole turns change no power
+turns : (q r : ℕ) → gf_pow 2 (255 * q + r) ≡ gf_pow 2 r
+turns zero r = ap (gf_pow 2) (omega arith)
+turns (suc q) r =
+    sym (mul_one (gf_pow 2 (255 * suc q + r)) (pow_below 2 (255 * suc q + r)))
+    ∙ ap (gf_mul (gf_pow 2 (255 * suc q + r))) (sym (pow_zero 2))
+    ∙ sym (pow_wrapped (255 * suc q + r) 0 (255 * q + r) (omega arith)) ∙ turns q r
+
+whole : (js : List ℕ) (i j s r : ℕ) → length js ≤ i → r ≡ s % 255
+    → gf_mul (gf_pow 2 s) (gap_ratio (drop i js) j) ≡ gap_ratio js j → gf_pow 2 r ≡ gap_ratio js j
 whole js i j s r l e h =
-    e ∙ sym (mul_one (gf_pow 2 s) (pow_below 2 s))
+    ap (gf_pow 2) e ∙ sym (turns (s / 255) (s % 255)) ∙ ap (gf_pow 2) (omega arith)
+    ∙ sym (mul_one (gf_pow 2 s) (pow_below 2 s))
     ∙ ap (λ (u : List ℕ). gf_mul (gf_pow 2 s) (gap_ratio u j)) (sym (drop_all i js l)) ∙ h
 
 pub returns-clause-value : goal.returns-clause-value
-returns-clause-value c = whole c.args.powers.now c.loop-i.i-index c.args.power c.loop-i.sum c.antilog.result
-    (omega arith) c.antilog.ensures c.loop-i.invariant.value
-
-pub returns-clause-some : goal.returns-clause-some
-returns-clause-some c = λ e. gap_ratio_some c.args.powers.now c.args.power c.requires.own c.requires.below
-    (sym (returns-clause-value c) ∙ e)
+returns-clause-value c = whole c.args.powers.now c.loop-i.i-index c.args.power c.loop-i.sum (c.loop-i.sum % 255)
+    (omega arith) refl c.loop-i.invariant.value

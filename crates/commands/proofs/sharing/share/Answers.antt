@@ -20,7 +20,8 @@ play-played-requires-clause-opened c =
 pub returns-in-Err-default : goal.returns-in-Err-default
 returns-in-Err-default c = λ given h.
     let can = opens_in _ _ _ c.requires.plain.zones (c.in-Ok.ensures.can c.requires.plain.plain) in
-    rw c.stop_of.ensures (share_stopped (zones_of c.args.booted) c.args.image.items c.in-Ok.image c.args.lines c.in-Ok.ensures.is can.zone
+    rw c.stop_of.ensures (share_stopped (zones_of c.args.booted) c.args.image.items c.in-Ok.image c.args.lines
+    c.in-Ok.ensures.is can.zone
     (zone_in_both (zones_of c.args.booted) (zones_of c.args.layout) c.in-Ok.image c.requires.plain.zones can)
     c.in-Err-default.stop c.play-played.new.shared given h
     (subst (Plays can.zone c.in-Ok.image c.args.lines c.play-played.new.shared) c.in-Err-default.is-0

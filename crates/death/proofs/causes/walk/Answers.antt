@@ -18,11 +18,13 @@ lines-preserved c = (
       ∙ ap (λ o. open_below c.args.text.now o (lines_from c.args.text.now c.in-Some.line.next))
       (sym (c.open_after-opened.ensures ∙ ap (λ k. open_after c.lines.opened k c.in-Some.line) c.kind_by-mark.ensures)),
   c.lines.invariant.1
-      ∙ ap (λ ls. option_or (last_found c.args.text.now c.args.cause c.lines.opened ls) c.lines.last) c.in-Some.ensures.line
+      ∙ ap (λ ls. option_or (last_found c.args.text.now c.args.cause c.lines.opened ls) c.lines.last)
+      c.in-Some.ensures.line
       ∙ found_more c.args.text.now c.args.cause c.lines.opened c.in-Some.line
       (lines_from c.args.text.now c.in-Some.line.next) c.lines.last
       ∙ ap (λ o. option_or (last_found c.args.text.now c.args.cause o (lines_from c.args.text.now c.in-Some.line.next))
-      (option_or (found c.args.text.now c.args.cause c.lines.opened (kind c.args.text.now c.in-Some.line) c.in-Some.line)
+      (option_or (found c.args.text.now c.args.cause c.lines.opened (kind c.args.text.now c.in-Some.line)
+      c.in-Some.line)
       c.lines.last))
       (sym (c.open_after-opened.ensures ∙ ap (λ k. open_after c.lines.opened k c.in-Some.line) c.kind_by-mark.ensures))
       ∙ ap (option_or (last_found c.args.text.now c.args.cause c.open_after-opened.result

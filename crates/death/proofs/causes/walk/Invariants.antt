@@ -1,5 +1,5 @@
--- The report that is open, and the last one that counts, are those of the lines above, as the lines from here go on. For
--- the loop of `walk`.
+-- The report that is open, and the last one that counts, are those of the lines above, as the lines from here go
+-- on. For the loop of `walk`.
 use Rattle.std.proofs.Common.{◌≡◌, ◌-◌, ◌+◌, length}
 use Rattle.std.specs.Prelude.{None}
 use Rattle.std.specs.Option.{option_or}

@@ -10,5 +10,7 @@ use Rattle.death_spec.specs.Reports.{first_where, named_from, last_two, death_of
 use Rattle.death.proofs.laws.a_later_oops_is_told.Goals as goal
 
 pub returns : goal.returns
-unfolding front_in front_of place_of landmark_end piece_len past_pieces line_of lines_at lines_from last_of last_opening telling_line stand_in cause_in open_below last_found cause_of entries is_passed to_blame first_where named_from last_two death_of trace_of
+unfolding front_in front_of place_of landmark_end piece_len past_pieces line_of lines_at lines_from last_of
+    last_opening telling_line stand_in cause_in open_below last_found cause_of entries is_passed to_blame first_where
+    named_from last_two death_of trace_of
 returns c = refl

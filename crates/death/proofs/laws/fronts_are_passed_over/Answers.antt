@@ -10,9 +10,13 @@ use Rattle.death_spec.specs.Reports.{first_where, named_from, last_two, death_of
 use Rattle.death.proofs.laws.fronts_are_passed_over.Goals as goal
 
 pub returns-clause-journal : goal.returns-clause-journal
-unfolding front_in front_of place_of landmark_end piece_len past_pieces line_of lines_at lines_from last_of last_opening telling_line stand_in cause_in open_below last_found cause_of entries is_passed to_blame first_where named_from last_two death_of
+unfolding front_in front_of place_of landmark_end piece_len past_pieces line_of lines_at lines_from last_of
+    last_opening telling_line stand_in cause_in open_below last_found cause_of entries is_passed to_blame first_where
+    named_from last_two death_of
 returns-clause-journal c = refl
 
 pub returns-clause-capture : goal.returns-clause-capture
-unfolding front_in front_of place_of landmark_end piece_len past_pieces line_of lines_at lines_from last_of last_opening telling_line stand_in cause_in open_below last_found cause_of entries is_passed to_blame first_where named_from last_two death_of
+unfolding front_in front_of place_of landmark_end piece_len past_pieces line_of lines_at lines_from last_of
+    last_opening telling_line stand_in cause_in open_below last_found cause_of entries is_passed to_blame first_where
+    named_from last_two death_of
 returns-clause-capture c = refl

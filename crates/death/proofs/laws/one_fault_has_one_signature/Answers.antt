@@ -11,9 +11,13 @@ use Rattle.death_spec.specs.Signatures.{numberless, place_of_words, kind_in, sig
 use Rattle.death.proofs.laws.one_fault_has_one_signature.Goals as goal
 
 pub returns-clause-one : goal.returns-clause-one
-unfolding front_in front_of place_of landmark_end piece_len past_pieces line_of lines_at lines_from last_of last_opening telling_line stand_in cause_in open_below last_found cause_of entries is_passed to_blame first_where named_from last_two death_of numberless place_of_words kind_in signature_of
+unfolding front_in front_of place_of landmark_end piece_len past_pieces line_of lines_at lines_from last_of
+    last_opening telling_line stand_in cause_in open_below last_found cause_of entries is_passed to_blame first_where
+    named_from last_two death_of numberless place_of_words kind_in signature_of
 returns-clause-one c = refl
 
 pub returns-clause-other : goal.returns-clause-other
-unfolding front_in front_of place_of landmark_end piece_len past_pieces line_of lines_at lines_from last_of last_opening telling_line stand_in cause_in open_below last_found cause_of entries is_passed to_blame first_where named_from last_two death_of numberless place_of_words kind_in signature_of
+unfolding front_in front_of place_of landmark_end piece_len past_pieces line_of lines_at lines_from last_of
+    last_opening telling_line stand_in cause_in open_below last_found cause_of entries is_passed to_blame first_where
+    named_from last_two death_of numberless place_of_words kind_in signature_of
 returns-clause-other c = refl

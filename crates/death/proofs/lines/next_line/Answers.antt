@@ -18,7 +18,8 @@ read c = c.line_of.ensures ∙ ap (λ bytes. line_of c.args.at (take c.line_len.
 
 next : (c : goal.After-line_of) → c.line_of.result.next ≡ c.args.at + c.line_len.result + 1
 next c = ap (λ l. l.next) c.line_of.ensures
-    ∙ next_of c.args.at _ c.line_len.result (sym (length-take-le c.line_len.result c.tail-rest.result.now c.line_len.ensures.within))
+    ∙ next_of c.args.at _ c.line_len.result
+    (sym (length-take-le c.line_len.result c.tail-rest.result.now c.line_len.ensures.within))
 
 pub returns-clause-line : goal.returns-clause-line
 returns-clause-line c =

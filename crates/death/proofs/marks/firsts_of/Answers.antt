@@ -9,7 +9,8 @@ loop-row-init c = λ b bs byte off. refl
 pub loop-row-preserved : goal.loop-row-preserved
 loop-row-preserved c = λ b bs byte off.
     c.loop-row.invariant b bs byte (c.add_first.ensures.others b byte off)
-    ∙ row_no c.args.rows.now (b ∷ bs) c.loop-row.row-index _ c.loop-row-test.true (c.add_first.ensures.words b bs byte off)
+    ∙ row_no c.args.rows.now (b ∷ bs) c.loop-row.row-index _ c.loop-row-test.true
+    (c.add_first.ensures.words b bs byte off)
 
 pub returns : goal.returns
 returns c = λ b bs byte off.

@@ -12,37 +12,48 @@ use Rattle.death.proofs.reports.heads.Goals as goal
 
 pub lines-init : goal.lines-init
 lines-init c = (
-  ap (λ t. first_where (is_a c.args.text.now Processor) (in_report c.args.text.now t (lines_from c.args.text.now c.args.telling.next)))
+  ap (λ t. first_where (is_a c.args.text.now Processor)
+      (in_report c.args.text.now t (lines_from c.args.text.now c.args.telling.next)))
       (sym (c.is_of_oops-is_open.ensures ∙ ap is_of_oops c.kind_by.ensures)),
-  ap (λ t. first_where (is_a c.args.text.now Place) (in_report c.args.text.now t (lines_from c.args.text.now c.args.telling.next)))
+  ap (λ t. first_where (is_a c.args.text.now Place)
+      (in_report c.args.text.now t (lines_from c.args.text.now c.args.telling.next)))
       (sym (c.is_of_oops-is_open.ensures ∙ ap is_of_oops c.kind_by.ensures)),
-  ap (λ t. first_where (is_a c.args.text.now Link) (in_report c.args.text.now t (lines_from c.args.text.now c.args.telling.next)))
+  ap (λ t. first_where (is_a c.args.text.now Link)
+      (in_report c.args.text.now t (lines_from c.args.text.now c.args.telling.next)))
       (sym (c.is_of_oops-is_open.ensures ∙ ap is_of_oops c.kind_by.ensures)),
-  ap (λ t. first_where (λ line. is_entry (said c.args.text.now line)) (in_report c.args.text.now t (lines_from c.args.text.now c.args.telling.next)))
+  ap (λ t. first_where (λ line. is_entry (said c.args.text.now line))
+      (in_report c.args.text.now t (lines_from c.args.text.now c.args.telling.next)))
       (sym (c.is_of_oops-is_open.ensures ∙ ap is_of_oops c.kind_by.ensures)),
-  ap (λ t. first_where (is_a c.args.text.now Own) (in_report c.args.text.now t (lines_from c.args.text.now c.args.telling.next)))
+  ap (λ t. first_where (is_a c.args.text.now Own)
+      (in_report c.args.text.now t (lines_from c.args.text.now c.args.telling.next)))
       (sym (c.is_of_oops-is_open.ensures ∙ ap is_of_oops c.kind_by.ensures)),
 )
 
 pub lines-preserved : goal.lines-preserved
 lines-preserved c = (
-  head_more c.args.text.now (is_a c.args.text.now Processor) c.is_of_oops-is_open.result c.lines.at c.in-Some.line c.lines.processor _
-      c.earlier-processor.result c.kind_by-mark.result c.is_mark-is_processor.result c.lines.invariant.0 c.in-Some.ensures.line
+  head_more c.args.text.now (is_a c.args.text.now Processor) c.is_of_oops-is_open.result c.lines.at c.in-Some.line
+      c.lines.processor _
+      c.earlier-processor.result c.kind_by-mark.result c.is_mark-is_processor.result c.lines.invariant.0
+      c.in-Some.ensures.line
       c.kind_by-mark.ensures (sym c.ends_report.ensures ∙ c.if-ends_report.false)
       (c.is_mark-is_processor.ensures ∙ ap (is_mark Processor) c.kind_by-mark.ensures) c.earlier-processor.ensures,
-  head_more c.args.text.now (is_a c.args.text.now Place) c.is_of_oops-is_open.result c.lines.at c.in-Some.line c.lines.place _
+  head_more c.args.text.now (is_a c.args.text.now Place) c.is_of_oops-is_open.result c.lines.at c.in-Some.line
+      c.lines.place _
       c.earlier-place.result c.kind_by-mark.result c.is_mark-is_place.result c.lines.invariant.1 c.in-Some.ensures.line
       c.kind_by-mark.ensures (sym c.ends_report.ensures ∙ c.if-ends_report.false)
       (c.is_mark-is_place.ensures ∙ ap (is_mark Place) c.kind_by-mark.ensures) c.earlier-place.ensures,
-  head_more c.args.text.now (is_a c.args.text.now Link) c.is_of_oops-is_open.result c.lines.at c.in-Some.line c.lines.link _
+  head_more c.args.text.now (is_a c.args.text.now Link) c.is_of_oops-is_open.result c.lines.at c.in-Some.line
+      c.lines.link _
       c.earlier-link.result c.kind_by-mark.result c.is_mark-is_link.result c.lines.invariant.2 c.in-Some.ensures.line
       c.kind_by-mark.ensures (sym c.ends_report.ensures ∙ c.if-ends_report.false)
       (c.is_mark-is_link.ensures ∙ ap (is_mark Link) c.kind_by-mark.ensures) c.earlier-link.ensures,
-  head_more c.args.text.now (λ line. is_entry (said c.args.text.now line)) c.is_of_oops-is_open.result c.lines.at c.in-Some.line c.lines.entry _
+  head_more c.args.text.now (λ line. is_entry (said c.args.text.now line)) c.is_of_oops-is_open.result c.lines.at
+      c.in-Some.line c.lines.entry _
       c.earlier-entry.result c.kind_by-mark.result c.is_entry-is_entry.result c.lines.invariant.3 c.in-Some.ensures.line
       c.kind_by-mark.ensures (sym c.ends_report.ensures ∙ c.if-ends_report.false)
       (c.is_entry-is_entry.ensures ∙ ap is_entry c.said-words.ensures.said) c.earlier-entry.ensures,
-  head_more c.args.text.now (is_a c.args.text.now Own) c.is_of_oops-is_open.result c.lines.at c.in-Some.line c.lines.own _
+  head_more c.args.text.now (is_a c.args.text.now Own) c.is_of_oops-is_open.result c.lines.at c.in-Some.line
+      c.lines.own _
       c.earlier-own.result c.kind_by-mark.result c.is_mark-is_own.result c.lines.invariant.4 c.in-Some.ensures.line
       c.kind_by-mark.ensures (sym c.ends_report.ensures ∙ c.if-ends_report.false)
       (c.is_mark-is_own.ensures ∙ ap (is_mark Own) c.kind_by-mark.ensures) c.earlier-own.ensures,
@@ -50,55 +61,65 @@ lines-preserved c = (
 
 pub returns-then-ends_report-clause-processor : goal.returns-then-ends_report-clause-processor
 returns-then-ends_report-clause-processor c =
-    head_ended c.args.text.now (is_a c.args.text.now Processor) c.is_of_oops-is_open.result c.lines.at c.in-Some.line c.lines.processor _
+    head_ended c.args.text.now (is_a c.args.text.now Processor) c.is_of_oops-is_open.result c.lines.at c.in-Some.line
+    c.lines.processor _
     c.kind_by-mark.result c.lines.invariant.0 c.in-Some.ensures.line c.kind_by-mark.ensures
     (sym c.ends_report.ensures ∙ c.if-ends_report.true)
 
 pub returns-then-ends_report-clause-place : goal.returns-then-ends_report-clause-place
 returns-then-ends_report-clause-place c =
-    head_ended c.args.text.now (is_a c.args.text.now Place) c.is_of_oops-is_open.result c.lines.at c.in-Some.line c.lines.place _
+    head_ended c.args.text.now (is_a c.args.text.now Place) c.is_of_oops-is_open.result c.lines.at c.in-Some.line
+    c.lines.place _
     c.kind_by-mark.result c.lines.invariant.1 c.in-Some.ensures.line c.kind_by-mark.ensures
     (sym c.ends_report.ensures ∙ c.if-ends_report.true)
 
 pub returns-then-ends_report-clause-link : goal.returns-then-ends_report-clause-link
 returns-then-ends_report-clause-link c =
-    head_ended c.args.text.now (is_a c.args.text.now Link) c.is_of_oops-is_open.result c.lines.at c.in-Some.line c.lines.link _
+    head_ended c.args.text.now (is_a c.args.text.now Link) c.is_of_oops-is_open.result c.lines.at c.in-Some.line
+    c.lines.link _
     c.kind_by-mark.result c.lines.invariant.2 c.in-Some.ensures.line c.kind_by-mark.ensures
     (sym c.ends_report.ensures ∙ c.if-ends_report.true)
 
 pub returns-then-ends_report-clause-entry : goal.returns-then-ends_report-clause-entry
 returns-then-ends_report-clause-entry c =
-    head_ended c.args.text.now (λ line. is_entry (said c.args.text.now line)) c.is_of_oops-is_open.result c.lines.at c.in-Some.line c.lines.entry _
+    head_ended c.args.text.now (λ line. is_entry (said c.args.text.now line)) c.is_of_oops-is_open.result c.lines.at
+    c.in-Some.line c.lines.entry _
     c.kind_by-mark.result c.lines.invariant.3 c.in-Some.ensures.line c.kind_by-mark.ensures
     (sym c.ends_report.ensures ∙ c.if-ends_report.true)
 
 pub returns-in_default-clause-processor : goal.returns-in_default-clause-processor
 returns-in_default-clause-processor c =
-    head_none c.args.text.now (is_a c.args.text.now Processor) c.is_of_oops-is_open.result c.lines.at c.lines.processor _ c.lines.invariant.0
+    head_none c.args.text.now (is_a c.args.text.now Processor) c.is_of_oops-is_open.result c.lines.at c.lines.processor
+    _ c.lines.invariant.0
     c.in_default.ensures.none
 
 pub returns-in_default-clause-place : goal.returns-in_default-clause-place
 returns-in_default-clause-place c =
-    head_none c.args.text.now (is_a c.args.text.now Place) c.is_of_oops-is_open.result c.lines.at c.lines.place _ c.lines.invariant.1
+    head_none c.args.text.now (is_a c.args.text.now Place) c.is_of_oops-is_open.result c.lines.at c.lines.place _
+    c.lines.invariant.1
     c.in_default.ensures.none
 
 pub returns-in_default-clause-link : goal.returns-in_default-clause-link
 returns-in_default-clause-link c =
-    head_none c.args.text.now (is_a c.args.text.now Link) c.is_of_oops-is_open.result c.lines.at c.lines.link _ c.lines.invariant.2
+    head_none c.args.text.now (is_a c.args.text.now Link) c.is_of_oops-is_open.result c.lines.at c.lines.link _
+    c.lines.invariant.2
     c.in_default.ensures.none
 
 pub returns-in_default-clause-entry : goal.returns-in_default-clause-entry
 returns-in_default-clause-entry c =
-    head_none c.args.text.now (λ line. is_entry (said c.args.text.now line)) c.is_of_oops-is_open.result c.lines.at c.lines.entry _ c.lines.invariant.3
+    head_none c.args.text.now (λ line. is_entry (said c.args.text.now line)) c.is_of_oops-is_open.result c.lines.at
+    c.lines.entry _ c.lines.invariant.3
     c.in_default.ensures.none
 
 pub returns-then-ends_report-clause-own : goal.returns-then-ends_report-clause-own
 returns-then-ends_report-clause-own c =
-    head_ended c.args.text.now (is_a c.args.text.now Own) c.is_of_oops-is_open.result c.lines.at c.in-Some.line c.lines.own _
+    head_ended c.args.text.now (is_a c.args.text.now Own) c.is_of_oops-is_open.result c.lines.at c.in-Some.line
+    c.lines.own _
     c.kind_by-mark.result c.lines.invariant.4 c.in-Some.ensures.line c.kind_by-mark.ensures
     (sym c.ends_report.ensures ∙ c.if-ends_report.true)
 
 pub returns-in_default-clause-own : goal.returns-in_default-clause-own
 returns-in_default-clause-own c =
-    head_none c.args.text.now (is_a c.args.text.now Own) c.is_of_oops-is_open.result c.lines.at c.lines.own _ c.lines.invariant.4
+    head_none c.args.text.now (is_a c.args.text.now Own) c.is_of_oops-is_open.result c.lines.at c.lines.own _
+    c.lines.invariant.4
     c.in_default.ensures.none

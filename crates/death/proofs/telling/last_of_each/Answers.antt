@@ -16,19 +16,24 @@ lines-preserved c = (
       ∙ last_more c.args.text.now is_panic c.in-Some.line (lines_from c.args.text.now c.in-Some.line.next) c.lines.panic
       ∙ ap (option_or (last_of c.args.text.now is_panic (lines_from c.args.text.now c.in-Some.line.next)))
       (sym (c.later-panic.ensures
-      ∙ ap (λ t. cond t (Some c.in-Some.line) c.lines.panic) (c.is_panic.ensures ∙ ap is_panic c.kind_by-mark.ensures))),
+      ∙ ap (λ t. cond t (Some c.in-Some.line) c.lines.panic)
+      (c.is_panic.ensures ∙ ap is_panic c.kind_by-mark.ensures))),
   c.lines.invariant.1
       ∙ ap (λ ls. option_or (last_opening c.args.text.now c.lines.is_open ls) c.lines.oops) c.in-Some.ensures.line
-      ∙ opening_more c.args.text.now c.lines.is_open c.in-Some.line (lines_from c.args.text.now c.in-Some.line.next) c.lines.oops
+      ∙ opening_more c.args.text.now c.lines.is_open c.in-Some.line (lines_from c.args.text.now c.in-Some.line.next)
+      c.lines.oops
       ∙ ap (λ t. option_or (last_opening c.args.text.now t (lines_from c.args.text.now c.in-Some.line.next))
       (cond (opens c.lines.is_open (kind c.args.text.now c.in-Some.line)) (Some c.in-Some.line) c.lines.oops))
       (sym (c.open_behind-is_open.ensures ∙ ap (open_behind c.lines.is_open) c.kind_by-mark.ensures))
-      ∙ ap (option_or (last_opening c.args.text.now c.open_behind-is_open.result (lines_from c.args.text.now c.in-Some.line.next)))
+      ∙ ap (option_or (last_opening c.args.text.now c.open_behind-is_open.result
+      (lines_from c.args.text.now c.in-Some.line.next)))
       (sym (c.later-oops.ensures
-      ∙ ap (λ t. cond t (Some c.in-Some.line) c.lines.oops) (c.opens.ensures ∙ ap (opens c.lines.is_open) c.kind_by-mark.ensures))),
+      ∙ ap (λ t. cond t (Some c.in-Some.line) c.lines.oops)
+      (c.opens.ensures ∙ ap (opens c.lines.is_open) c.kind_by-mark.ensures))),
   c.lines.invariant.2
       ∙ ap (λ ls. option_or (last_of c.args.text.now is_warning ls) c.lines.warning) c.in-Some.ensures.line
-      ∙ last_more c.args.text.now is_warning c.in-Some.line (lines_from c.args.text.now c.in-Some.line.next) c.lines.warning
+      ∙ last_more c.args.text.now is_warning c.in-Some.line (lines_from c.args.text.now c.in-Some.line.next)
+      c.lines.warning
       ∙ ap (option_or (last_of c.args.text.now is_warning (lines_from c.args.text.now c.in-Some.line.next)))
       (sym (c.later-warning.ensures
       ∙ ap (λ t. cond t (Some c.in-Some.line) c.lines.warning)

@@ -30,7 +30,7 @@ use denote.Triple.Entry.{Vals}
 use denote.Triple.Spec.{Meets, triple_of}
 use denote.Triple.Table.{entered}
 use sound.WpLaws.{WpFn-mono}
-use types.Kit.{‵, raw, ◌⊛◌, at_ret, ◌$◌, ◌∵◌, !, qed, move, keep, use0, use1, use2, drop as leave, split, join, fsplit}
+use types.Kit.{‵, raw, ◌⊛◌, at_ret, ◌$◌, ◌∵◌, !, qed, move, keep, use0, use1, use2, drop as leave, split, join}
 use types.Kit.{fsplit3, fjoin, fjoin3, feq_i, given, learn, rewrite, suffices, done}
 use types.Run.{init, stop, size_word, unit_lit, of_opd, bin, assigns_last, first, blocks, exec, returns, enter}
 use types.ByLocal.{alloc_all, pass_all, free_all, look_at, get, is, through, sets, take_at, give_at, env}

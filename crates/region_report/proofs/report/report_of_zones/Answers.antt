@@ -7,6 +7,7 @@ use Rattle.zone_spec.specs.PartStates.{PartStates}
 use Rattle.prz_read.specs.Saving.{saved}
 use Rattle.report_spec.specs.Packed.{RecordShown, AreShown}
 use Rattle.report_spec.specs.Doubts.{with_doubts}
+use Rattle.report_spec.specs.Mending.{records_mended}
 use Rattle.region_report.specs.Reports.{SpansFit}
 use Rattle.region_report.proofs.Zones.{spans-fit, report-is}
 use Rattle.region_report.proofs.report.report_of_zones.Goals as goal
@@ -37,6 +38,8 @@ returns c =
     (subst (λ (rs : List RecordHeld). AreShown layout c.args.symbols.now rs shown) c.in_ok-held.ensures
     c.in_ok-shown.ensures)
     (c.in_ok-records.ensures
+    ∙ ap (λ (ps : List PartStates). records_mended ps c.in_ok-doubted.doubted.items) c.as_slice-2.ensures.value
+    ∙ ap (records_mended c.in_ok-logs.field-0.parts.items) (c.in_ok-doubted.ensures
     ∙ ap (λ (ps : List PartStates).
     map (λ (s : RecordShown). with_doubts layout (saved c.in_ok-logs.field-0.logs) ps s) shown)
-    c.as_slice.ensures.value)
+    c.as_slice.ensures.value))

@@ -1,10 +1,13 @@
 -- What is known of the death, and that it is bytes
 use Rattle.std.proofs.Common.{◌≡◌, ◌++◌, ◌∙◌, Bool, List, ℕ, Option, codes, ap, subst}
 use Rattle.zone_spec.specs.Parts.{AreBytes}
+use Rattle.zone_spec.specs.declared.Time.{Time}
 use Rattle.zone_spec.specs.Records.{Saved}
 use Rattle.prz_read.specs.Saving.{saved}
 use Rattle.report_spec.specs.Packed.{RecordShown, readable}
-use Rattle.report_spec.specs.Newest.{console_of}
+use Rattle.report_spec.specs.declared.Mended.{Mended}
+use Rattle.report_spec.specs.Newest.{newest, console_of}
+use Rattle.report_spec.specs.Deaths.{death_time}
 use Rattle.report_spec.specs.Facts.{MachineTold, uptime_of, machine_of}
 use Rattle.region_report.specs.Tellers.{as_told}
 use Rattle.report_html.specs.Pieces.{Part, parts}
@@ -41,17 +44,18 @@ returns-clause-parts c =
     let p6 = parts c.add_before.new.pieces.items in
     let p7 = parts c.add_teller.new.pieces.items in
     let p8 = parts c.add_around.new.pieces.items in
-    let a1 : List Part = when_parts t.teller.time in
+    let a1 : List Part = when_parts (death_time t (newest records)) in
     let a2 : List Part = up_parts (uptime_of text t.death.telling) in
     let a3 : List Part = context_parts text t.death in
     let a4 : List Part = bytes_parts (codes "Signature") c.args.signature.now in
     let a5 : List Part = machine_parts (machine_of t (console_of records)) in
     let a6 : List Part = before_parts (told_before t.teller.name records) in
     let words : List ℕ = console_words t (console_of records) in
-    let a7 : List Part = teller_parts zones t.teller.name words in
+    let a7 : List Part = teller_parts zones t.teller.name t.teller.mended words in
     let a8 : List Part = around_parts t.teller.name t.teller.doubts text t.death in
     let e1 : p1 ≡ old ++ a1 =
-    c.in_ok-add_when.ensures ∙ ap (λ (q : RecordShown). old ++ when_parts q.time) c.teller.view_is in
+    c.in_ok-add_when.ensures ∙ ap (λ (time : Option Time). old ++ when_parts time)
+    (c.death_time.ensures ∙ ap (λ (r : Option RecordShown). death_time t r) c.newest_dump.ensures.first) in
     let e2 : p2 ≡ p1 ++ a2 = c.in_ok-add_up.ensures.parts ∙ ap (λ (bs : List ℕ). p1 ++ up_parts bs)
     (c.uptime.ensures ∙ ap (λ (bs : List ℕ). uptime_of bs t.death.telling) c.readable-text.ensures) in
     let e3 : p3 ≡ p2 ++ a3 = c.in_ok-add_context.ensures
@@ -62,8 +66,10 @@ returns-clause-parts c =
     let e6 : p6 ≡ p5 ++ a6 = c.in_ok-add_before.ensures.parts
     ∙ ap (λ (q : RecordShown). p5 ++ before_parts (told_before q.name records)) c.teller.view_is in
     let e7 : p7 ≡ p6 ++ a7 = c.in_ok-add_teller.ensures
-    ∙ ap (λ (q : RecordShown). p6 ++ teller_parts zones q.name c.console_text-words.result.now) c.teller.view_is
-    ∙ ap (λ (bs : List ℕ). p6 ++ teller_parts zones t.teller.name bs)
+    ∙ ap (λ (m : Option (Mended (List ℕ))). p6 ++ teller_parts zones c.teller.inside.name m c.console_text-words.result.now)
+    c.as_ref.ensures.value
+    ∙ ap (λ (q : RecordShown). p6 ++ teller_parts zones q.name q.mended c.console_text-words.result.now) c.teller.view_is
+    ∙ ap (λ (bs : List ℕ). p6 ++ teller_parts zones t.teller.name t.teller.mended bs)
     (c.console_text-words.ensures ∙ ap (λ (r : Option RecordShown). console_words t r) c.console-2.ensures) in
     let e8 : p8 ≡ p7 ++ a8 = c.in_ok-add_around.ensures.parts
     ∙ ap (λ (ds : List Bool). p7 ++ around_parts c.teller.inside.name ds c.readable-text.result.now t.death)

@@ -1,4 +1,4 @@
--- The runs stand one after another
+-- The chunks stand one after another
 use Rattle.std.proofs.Common.{◌+◌, ◌∙◌, ◌++◌, List, ℕ, sym, ap, arith}
 use Rattle.std.specs.Prelude.{flat_map}
 use Rattle.std.proofs.lemmas.List.{take_all}
@@ -15,8 +15,9 @@ loop-at-preserved c =
     let least = c.min.ensures in
     let below = c.loop-at-test.true in
     record {
-      items = run-next bytes at end c.args.out.now.items c.loop-at.out.items c.push_run.new.out.items (omega arith)
-          c.loop-at.invariant.items c.in_ok-push_run.ensures;
+      items = run-next bytes at end c.args.out.now.items c.loop-at.out.items c.extend_from_slice.new.self.items (omega arith)
+          c.loop-at.invariant.items (c.in_ok-extend_from_slice.ensures.items
+          ∙ ap (λ (bs : List ℕ). c.loop-at.out.items ++ bs) c.put_chunk-end.ensures.text);
       within = omega (arith, least, below);
     }
 

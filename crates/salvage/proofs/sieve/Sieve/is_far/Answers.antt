@@ -13,9 +13,9 @@ returns-then-most-count c = λ _ d hd.
     c.as_slice-block-items.result.now c.block-item.result c.as_slice-block-items.ensures.value c.self.invariant.each
     c.loop-block-test.true c.block-item.is in
     let more = far_more c.self.inside.known c.self.inside.parity c.block-item.result c.args.word.now
-    c.as_slice.result.now c.self.inside.base.items d c.loop-block.count c.loop-block.end is c.as_slice.ensures.value
+    c.as_slice.result.now c.self.inside.base.items d c.loop-block.count c.told-count.result c.loop-block.end is c.as_slice.ensures.value
     c.self.invariant.codeword (c.requires ∙ ap (λ (s : Sifted). 12 + s.parity) (sym c.self.view_is)) own
-    c.if-block-end.false (c.loop-block.invariant.far d own) (c.errs.ensures c.if-not-errs.false) in
+    c.if-block-end.false (c.loop-block.invariant.far d own) c.told-count.ensures.told in
     omega (arith, more, c.if-most-count.true)
 
 pub loop-block-preserved : goal.loop-block-preserved
@@ -26,9 +26,9 @@ loop-block-preserved c =
     c.loop-block-test.true c.block-item.is in
     record {
       far = λ d own. far_more c.self.inside.known c.self.inside.parity c.block-item.result c.args.word.now
-          c.as_slice.result.now c.self.inside.base.items d c.loop-block.count c.loop-block.end is
+          c.as_slice.result.now c.self.inside.base.items d c.loop-block.count c.told-count.result c.loop-block.end is
           c.as_slice.ensures.value c.self.invariant.codeword
           (c.requires ∙ ap (λ (s : Sifted). 12 + s.parity) (sym c.self.view_is)) own c.if-block-end.false
-          (c.loop-block.invariant.far d own) (c.errs.ensures c.if-not-errs.false);
-      small = omega (arith, c.loop-block.invariant.small, is.four);
+          (c.loop-block.invariant.far d own) c.told-count.ensures.told;
+      small = omega (arith, c.loop-block.invariant.small, c.told-count.ensures.few);
     }
