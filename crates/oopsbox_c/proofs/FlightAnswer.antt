@@ -1,12 +1,12 @@
 -- An answer that was gathered is that of the next stores
-use Rattle.std.proofs.Common.{◌≡◌, ℕ, ◌+◌, ◌<◌, ◌≤◌, ◌⊎◌, ◌↔◌, List, length, take, drop, sym, ap, ◌∙◌, subst, arith}
+use Rattle.std.proofs.Common.{◌≡◌, ℕ, ◌+◌, ◌<◌, ◌≤◌, ◌⊎◌, ◌↔◌, List, sym, ap, ◌∙◌, subst, arith}
 use Rattle.std.proofs.Common.{inl, inr}
 use Rattle.zone_spec.specs.Stores.{after_stores}
 use Rattle.store_steps.specs.declared.steps.Steps.{Steps}
 use Rattle.store_steps.specs.declared.place.Phase.{Phase}
 use Rattle.store_steps.specs.declared.place.Phase.TheVariants.{ZeroStart, ZeroSize, Size, Start, First, FirstParity}
 use Rattle.store_steps.specs.declared.place.Phase.TheVariants.{Second, SecondParity, Header, Finished}
-use Rattle.store_steps.specs.Flying.{Flying, flying, IsSameCall}
+use Rattle.store_steps.specs.Flying.{flying, IsSameCall}
 use Rattle.store_steps.specs.Machine.{IsKept, IsParity, StandsFor}
 use Rattle.store_steps.specs.Counts.{total_of}
 use Rattle.store_steps.proofs.FlightSteps.{ends, total_same}

@@ -8,7 +8,6 @@ pub mod Back
 pub mod Begun
 pub mod WholeCalls
 pub mod NextStores
-pub mod PlainStores
-pub mod PlainAnswer
+pub mod WholeAnswer
 pub mod FlightAnswer
 pub mod Blocks

@@ -1,7 +1,6 @@
 -- What is handed out from a flight on, end to end
-use Rattle.std.proofs.Common.{◌≡◌, ℕ, ◌+◌, ◌≤◌, List, [], ◌∷◌, ◌++◌, length, take, drop, refl, sym, ap, ap₂, ◌∙◌, arith}
+use Rattle.std.proofs.Common.{◌≡◌, ℕ, ◌+◌, ◌≤◌, List, [], ◌∷◌, ◌++◌, length, take, drop, sym, ap, ap₂, ◌∙◌, arith}
 use Rattle.std.proofs.Common.{append-nil, length-drop}
-use Rattle.std.specs.List.{flat_map}
 use Rattle.std.proofs.lemmas.List.{take_all, drop-drop, take-append-drop}
 use Rattle.zone_spec.specs.declared.Zone.{Zone}
 use Rattle.zone_spec.specs.declared.CallKind.{CallKind}
@@ -10,12 +9,11 @@ use Rattle.zone_spec.specs.Stores.{Store, after_stores}
 use Rattle.zone_spec.specs.Calls.{call_stores}
 use Rattle.store_steps.specs.Calls.{call_of}
 use Rattle.store_steps.specs.Machine.{StandsFor}
-use Rattle.oopsbox_c.specs.declared.places.ZonePlace.{ZonePlace}
 use Rattle.oopsbox_c.specs.declared.flights.Flight.{Flight}
 use Rattle.oopsbox_c.specs.Numbers.{call_in}
 use Rattle.oopsbox_c.specs.Places.{zone_in}
 use Rattle.oopsbox_c.specs.Stores.{stores_in}
-use Rattle.oopsbox_c.specs.Flights.{flight_in, IsBegun, IsNext}
+use Rattle.oopsbox_c.specs.Flights.{flight_in, IsNext}
 use Rattle.oopsbox_c.specs.WholeFlights.{Answer, AreAnswers, EndsFinished, stores_of, FlightsAreWhole}
 
 -- the answer's stores among all

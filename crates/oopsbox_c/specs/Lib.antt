@@ -8,7 +8,6 @@ pub mod Layouts
 pub mod Memory
 pub mod Numbers
 pub mod Places
-pub mod PlainAppends
 pub mod Readings
 pub mod Runs
 pub mod Stores

@@ -16,7 +16,6 @@ ghost use Rattle.zone_spec.specs.declared.CallKind.TheVariants.{Append, Erase, D
 use crate::End;
 use crate::numbers::{call_in, call_number, leg_in, leg_number, phase_in, phase_number};
 use crate::places::{ZonePlace, byte_order_in, is_place, zone_in};
-use crate::plain::put_all;
 use crate::stores::Stores;
 use crate::tables::{TableRow, is_lendable, lend};
 use prz_ecc::words_of;
@@ -358,19 +357,22 @@ pub extern "C" fn oopsbox_flight_next(
     end.status()
 }
 
-// Hands out all stores of an append without parity that was begun: the flight is at its end.
-fn finish_plain(flight: &mut Flight, payload: &[u8], stores: &mut Stores)
+// Hands out the first stores of an append that was begun: without parity all of them.
+fn first_stores(flight: &mut Flight, image: &[u8], payload: &[u8], stores: &mut Stores)
     requires flight { IsFlight flight.old [] payload.now }
-    requires kind { call_in flight.old.kind ≡ Append }
-    requires made { flight.old.made ≡ 0 }
-    requires parity { flight.old.zone.parity ≡ 0 }
-    ensures { (image : List ℕ) → IsNext flight.old flight.new image [] payload.now 4294967295 stores.new }
+    requires len { length image.now ≡ flight.old.zone.size }
+    ensures { IsNext flight.old flight.new image.now [] payload.now 4294967295 stores.new }
 {
-    let zone = zone_in(&flight.zone);
-    flight.made = put_all(&zone, flight.old_start, flight.old_size, payload, stores);
-    flight.phase = phase_number(Phase::Finished);
-    flight.number = 0;
-    stores.is_last = 1;
+    let mut steps = steps_of(flight);
+    match steps.take_whole(&[], payload, u64::from(u32::MAX)) {
+        Some(whole) => {
+            stores.set_whole(&whole);
+            stores.is_last = 1;
+            let place = flight.zone;
+            *flight = flight_of(&place, flight.line, flight.payload, &steps);
+        }
+        None => go_on(flight, image, &[], payload, &[], u32::MAX, stores),
+    }
 }
 
 // Begins an append, and hands out its first stores.
@@ -384,10 +386,8 @@ fn append(
     ensures { AppendEnds result place.now image.now payload.now flight.old flight.new stores.old stores.new }
 {
     let end = begin(place, CallKind::Append, image, &[], payload, flight);
-    match end {
-        End::Done if place.parity == 0 => finish_plain(flight, payload, stores),
-        End::Done => go_on(flight, image, &[], payload, &[], u32::MAX, stores),
-        _ => {}
+    if let End::Done = end {
+        first_stores(flight, image, payload, stores);
     }
     end
 }

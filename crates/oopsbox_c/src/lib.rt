@@ -13,7 +13,6 @@ mod layouts;
 mod memory;
 mod numbers;
 mod places;
-mod plain;
 mod readings;
 mod reporting;
 mod running;

@@ -1,12 +1,14 @@
 // Stores as C sees them.
-ghost use Rattle.std.specs.Prelude.{◌≡◌, ◌+◌, ◌≤◌, ◌<◌, ◌↔◌, ◌⊎◌, ◌++◌, [], List, ℕ, IsTrue, length, take, drop};
+ghost use Rattle.std.specs.Prelude.{◌≡◌, ◌+◌, ◌^◌, ◌≤◌, ◌<◌, ◌↔◌, ◌⊎◌, ◌++◌, [], List, ℕ, IsTrue, length, take, drop};
 ghost use Rattle.zone_spec.specs.Stores.{byte_stores, word_store};
 ghost use Rattle.store_steps.specs.Handed.{handed, IsInside};
+ghost use Rattle.store_steps.specs.PlainAppends.{size_store};
+ghost use Rattle.store_steps.specs.Whole.{whole_handed, IsWholeInside};
 ghost use Rattle.store_steps.specs.declared.store.Given.TheVariants.{Nothing};
 ghost use Rattle.zone_boot.specs.Handed.{handed as boot_handed, handed_len};
 ghost use Rattle.zone_boot.specs.declared.handing.Given.TheVariants.{Nothing as BootNothing};
 
-use store_steps::{Given, Store};
+use store_steps::{Given, Store, Whole};
 use zone_boot::BootStore;
 use zone_spec::ByteOrder;
 
@@ -186,6 +188,48 @@ impl Stores {
     {
         self.stores[self.count as usize].set_payload(place, from, len);
         self.count += 1;
+    }
+
+    // A size word alone, if there is one.
+    fn set_size(&mut self, order: ByteOrder, word: Option<u32>)
+        ensures count { self.new.count ≤ 1 }
+        ensures stores { (line payload : List ℕ) → stores_in self.new line payload ≡ size_store order word }
+        ensures inside { (size : ℕ) (line payload : List ℕ) → 12 ≤ size → AreInside size self.new line payload }
+    {
+        self.clear();
+        match word {
+            Some(word) => self.push_word(order, 8, word),
+            None => {}
+        }
+    }
+
+    // These stores, and then the bytes of an append, in one run or two.
+    fn push_runs(&mut self, whole: &Whole)
+        requires room { self.old.count ≤ 2 }
+        requires end { whole.now.from + whole.now.first < 2 ^ 64 }
+        ensures stores { (line payload : List ℕ) → stores_in self.new line payload ≡ stores_in self.old line payload
+            ++ (byte_stores whole.now.place (take whole.now.first (drop whole.now.from payload))
+            ++ byte_stores 12 (take whole.now.second (drop (whole.now.from + whole.now.first) payload))) }
+        ensures inside { (size : ℕ) (line payload : List ℕ) → AreInside size self.old line payload
+            → IsWholeInside size whole.now payload → AreInside size self.new line payload }
+    {
+        self.push_payload(whole.place, whole.from, whole.first);
+        if whole.second > 0 {
+            let from = whole.from + u64::from(whole.first);
+            self.push_payload(12, from, whole.second);
+        }
+    }
+
+    /// All stores of an append without parity.
+    pub(crate) fn set_whole(&mut self, whole: &Whole)
+        requires { whole.now.from + whole.now.first < 2 ^ 64 }
+        ensures stores { (line payload : List ℕ) → stores_in self.new line payload ≡ whole_handed whole.now payload }
+        ensures inside { (size : ℕ) (line payload : List ℕ) → IsWholeInside size whole.now payload
+            → AreInside size self.new line payload }
+    {
+        self.set_size(whole.byte_order, whole.size);
+        self.push_word(whole.byte_order, 4, whole.start);
+        self.push_runs(whole);
     }
 
     /// The stores of a boot alone; where it has none they are the last.

@@ -1,10 +1,11 @@
 -- The zones of an image, one after another
 use Rattle.std.proofs.Common.{◌≡◌, ℕ, zero, suc, ◌+◌, ◌-◌, ◌<◌, ◌≤◌, List, [], ◌∷◌, length, take, drop, map, slice_get}
 use Rattle.std.proofs.Common.{get_or, refl, sym, ap, ◌∙◌, subst, arith, inl, inr, Some, length-append, length-take}
-use Rattle.std.proofs.Common.{length-drop}
+use Rattle.std.proofs.Common.{length-drop, append_assoc, take-append-drop, add-zero, zero-add, ◌++◌}
 use Rattle.std.specs.Prelude.{slice_range, Option}
+use Rattle.std.specs.List.{concat}
 use Rattle.std.proofs.lemmas.Bool.{cases_lt}
-use Rattle.std.proofs.lemmas.List.{length-map}
+use Rattle.std.proofs.lemmas.List.{length-map, drop-drop}
 use Rattle.std.proofs.lemmas.List.Sums.{sum_by-cons}
 use Rattle.std.proofs.lemmas.Option.{slice_get-get_or, slice_get_read, slice_get_within}
 use Rattle.circular_buffer.proofs.Places.{slice_get-append_left, slice_get-last}
@@ -66,6 +67,40 @@ spans-fit zones mem image lies size = record {
         size,
       );
 }
+
+-- a range and what is behind it
+range-then-rest : (bytes : List ℕ) (at size : ℕ)
+    → slice_range bytes at (at + size) ++ drop (at + size) bytes ≡ drop at bytes
+range-then-rest bytes at size =
+    ap (λ (n : ℕ). take n (drop at bytes) ++ drop (at + size) bytes) (omega (arith))
+    ∙ ap (λ (l : List ℕ). take size (drop at bytes) ++ l) (sym (drop-drop size at bytes))
+    ∙ take-append-drop size (drop at bytes)
+
+-- zones side by side from a place on: their spans and what is behind them, end to end
+spans-from : (zones : List Zone) (base : ℕ) (image : List ℕ)
+    → ((i : ℕ) (z : Zone) → slice_get zones i ≡ Some z → z.at ≡ base + zones_end (take i zones))
+    → concat (map (λ (z : Zone). slice_range image z.at (z.at + z.size)) zones)
+    ++ drop (base + zones_end zones) image ≡ drop base image
+spans-from [] base image at = ap (λ (n : ℕ). drop n image) (add-zero base)
+spans-from (z ∷ zs) base image at =
+    let own : List ℕ = slice_range image z.at (z.at + z.size) in
+    let others : List (List ℕ) = map (λ (y : Zone). slice_range image y.at (y.at + y.size)) zs in
+    let sums : zones_end (z ∷ zs) ≡ z.size + zones_end zs = sum_by-cons (λ (y : Zone). y.size) z zs in
+    let here : z.at ≡ base = at 0 z refl ∙ add-zero base in
+    let next : (i : ℕ) (y : Zone) → slice_get zs i ≡ Some y → y.at ≡ (z.at + z.size) + zones_end (take i zs) =
+    λ i y e. at (suc i) y e ∙ omega (arith, here, sum_by-cons (λ (y : Zone). y.size) z (take i zs)) in
+    append_assoc own (concat others) (drop (base + zones_end (z ∷ zs)) image)
+    ∙ ap (λ (n : ℕ). own ++ (concat others ++ drop n image)) (omega (arith, here, sums))
+    ∙ ap (λ (l : List ℕ). own ++ l) (spans-from zs (z.at + z.size) image next)
+    ∙ range-then-rest image z.at z.size
+    ∙ ap (λ (n : ℕ). drop n image) here
+
+-- the spans of an image are the image again
+pub spans-joined : (zones : List Zone) (mem : ℕ) (image : List ℕ) → IsLayout zones mem
+    → concat (cut_at zones image).spans ++ (cut_at zones image).rest ≡ image
+spans-joined zones mem image lies =
+    ap (λ (n : ℕ). concat (cut_at zones image).spans ++ drop n image) (sym (zero-add (zones_end zones)))
+    ∙ spans-from zones 0 image (λ i z e. (lies.valid i z e).1 ∙ sym (zero-add (zones_end (take i zones))))
 
 -- the zone and the span at a place
 pub record SpanAt (layout : List Zone) (spans : List (List ℕ)) (i : ℕ) (z : Zone) (bytes : List ℕ) : Type 0 where

@@ -3,7 +3,6 @@ ghost use Rattle.std.specs.Prelude.{◌≡◌, map, IfOk};
 ghost use Rattle.std.specs.List.{list_any, count_by};
 ghost use Rattle.std.specs.Option.{option_copied, option_map};
 ghost use Rattle.report_spec.specs.Packed.{RecordShown};
-ghost use Rattle.report_spec.specs.Newest.{newest};
 ghost use Rattle.report_spec.specs.Mending.{seen_in, mending_by as mending_by_record, is_doubt};
 ghost use Rattle.report_spec.specs.Mending.{if_fewer as mending_if_fewer};
 ghost use Rattle.report_spec.specs.Mending.{is_sound as is_zone_sound, zone_of as zone_of_name, vouches as does_vouch};
@@ -183,11 +182,13 @@ struct Mendings {
     name: Option<Name>,
 }
 
-fn dump_name(records: &[RecordReport]) -> Option<Name>
-    ensures { result ≡ option_map (λ (dump : RecordShown). dump.name) (newest records.now) }
+fn name_of(dump: Option<&RecordReport>) -> Option<Name>
+    ensures { result ≡ option_map (λ (dump : RecordShown). dump.name) (option_copied dump.entry) }
 {
-    let dump = newest_dump(records)?;
-    Some(dump.name)
+    match dump {
+        Some(dump) => Some(dump.name),
+        None => None,
+    }
 }
 
 fn mended_record(
@@ -233,7 +234,7 @@ fn mendings_of(
     Ok(Mendings {
         console: mending_for(alloc, parts, console, newest)?,
         dump: mending_for(alloc, parts, newest, console)?,
-        name: dump_name(records),
+        name: name_of(newest),
     })
 }
 

@@ -134,36 +134,39 @@ fn read_zones(alloc: Global, zones: &[Zone], spans: &Spans) -> Result<Readings, 
     Ok(readings)
 }
 
-/// The report of an image by a whole list of zones, with the functions of a map. The entries of its ftrace logs have
-/// the form that is given, or else the one that the logs' bytes show. Each part is decoded once, and each packed dump
-/// inflated once. Takes time linear in the image and in the texts, which have at most 64 times its bytes.
+/// The report of an image by a whole list of zones, with the functions of a map, and the image again. The entries of its
+/// ftrace logs have the form that is given, or else the one that the logs' bytes show. Each part is decoded once, and
+/// each packed dump inflated once. Takes time linear in the image and in the texts, which have at most 64 times its bytes.
 pub fn report_of_zones(
     alloc: Global,
     zones: &[Zone],
     symbols: &Symbols,
     given: Option<EntryForm>,
     image: Bytes,
-) -> Result<Report, AllocError>
+) -> Result<(Report, Bytes), AllocError>
     requires whole { IsLayout zones.now (length image) }
     requires few { length zones.now < 2 ^ 32 }
     requires numbered { AreNumbered zones.now }
-    ensures { IfOk result (IsReport zones.now symbols.now given image) }
+    ensures report { IfOk result (λ read. IsReport zones.now symbols.now given image read.0) }
+    ensures image { IfOk result (λ read. read.1 ≡ image) }
 {
     let spans = match Region::from_bytes(image).cut_zones(zones) {
         Ok(spans) => spans,
         Err((_, refused)) => return Err(refused),
     };
     let Readings { logs, parts } = read_zones(alloc, zones, &spans)?;
+    let image = spans.join().into_bytes();
     let held = records_traced(alloc, zones, given, &logs)?;
     let shown = shown_records(alloc, zones, symbols, held)?;
     let doubted = records_doubted(alloc, zones, &logs, parts.as_slice(), shown)?;
     let records = records_mended(alloc, parts.as_slice(), doubted)?;
-    Ok(Report {
+    let report = Report {
         origin: Origin::Region,
         logs,
         parts,
         records,
-    })
+    };
+    Ok((report, image))
 }
 
 /// The report of an image by its layout, with the functions of a map.
@@ -177,5 +180,6 @@ pub fn report_of(
     ensures { IfOk result (IsReport (zones_of layout.now) symbols.now None image) }
 {
     let _mem = layout.mem();
-    report_of_zones(alloc, layout.zones(), symbols, None, image)
+    let (report, _image) = report_of_zones(alloc, layout.zones(), symbols, None, image)?;
+    Ok(report)
 }

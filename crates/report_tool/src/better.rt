@@ -154,7 +154,8 @@ fn front_report(alloc: Global, plan: &Plan, image: &[u8]) -> Result<Report, Allo
     ensures { IfOk result (IsReport plan.now.zones.items plan.now.symbols plan.now.entries (take plan.now.mem image.now)) }
 {
     let front = Bytes::copy_of(alloc, &image[..plan.mem as usize])?;
-    report_of_bytes(alloc, plan, front)
+    let (report, _front) = report_of_bytes(alloc, plan, front)?;
+    Ok(report)
 }
 
 // The words of a layout, if it explains the image better than the plan.

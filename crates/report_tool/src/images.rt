@@ -16,14 +16,15 @@ use outside::{Bytes, Failed, Load, Sink};
 use region_report::{Report, report_of_zones};
 use std::alloc::{AllocError, Global};
 
-/// The report of so many bytes as a plan has.
+/// The report of so many bytes as a plan has, and the bytes again.
 pub(crate) fn report_of_bytes(
     alloc: Global,
     plan: &Plan,
     bytes: Bytes,
-) -> Result<Report, AllocError>
+) -> Result<(Report, Bytes), AllocError>
     requires { length bytes ≡ plan.now.mem }
-    ensures { IfOk result (IsReport plan.now.zones.items plan.now.symbols plan.now.entries bytes) }
+    ensures report { IfOk result (λ read. IsReport plan.now.zones.items plan.now.symbols plan.now.entries bytes read.0) }
+    ensures bytes { IfOk result (λ read. read.1 ≡ bytes) }
 {
     report_of_zones(alloc, &plan.zones, &plan.symbols, plan.entries, bytes)
 }

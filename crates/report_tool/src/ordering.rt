@@ -50,7 +50,14 @@ fn report_as(
     requires { length bytes ≡ other.now.params.mem }
     ensures { IfOk result (IsReport other.now.zones.items plan.now.symbols plan.now.entries bytes) }
 {
-    report_of_zones(alloc, &other.zones, &plan.symbols, plan.entries, bytes)
+    let (report, _bytes) = report_of_zones(
+        alloc,
+        &other.zones,
+        &plan.symbols,
+        plan.entries,
+        bytes,
+    )?;
+    Ok(report)
 }
 
 // Reads bytes by a plan's zones in another order.
@@ -85,8 +92,7 @@ fn read_open(alloc: Global, plan: &Plan, bytes: Bytes) -> Result<Read, AllocErro
     ensures { IfOk result (λ read. IsReadBy plan.now bytes (params_by plan.now read.other)
         (zones_by plan.now read.other) read.report) }
 {
-    let copy = Bytes::copy_of(alloc, bytes.as_slice())?;
-    let report = report_of_bytes(alloc, plan, copy)?;
+    let (report, bytes) = report_of_bytes(alloc, plan, bytes)?;
     match unless_same(order_named(report.records()), plan.params.order) {
         Some(order) => read_in(alloc, plan, order, bytes),
         None => Ok(Read {
@@ -106,7 +112,7 @@ pub(crate) fn read_by(alloc: Global, plan: &Plan, bytes: Bytes) -> Result<Read, 
     if plan.is_open {
         read_open(alloc, plan, bytes)
     } else {
-        let report = report_of_bytes(alloc, plan, bytes)?;
+        let (report, _bytes) = report_of_bytes(alloc, plan, bytes)?;
         Ok(Read {
             other: None,
             report,

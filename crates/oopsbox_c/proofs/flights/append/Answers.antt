@@ -1,4 +1,4 @@
--- Without parity the append is handed out whole. For `append`.
+-- The first stores are those of the flight that was begun. For `append`.
 use Rattle.std.proofs.Common.{sym, subst}
 use Rattle.oopsbox_c.specs.Flights.{AppendEnds}
 use Rattle.oopsbox_c.specs.declared.ends.End.{End}
@@ -7,9 +7,9 @@ use Rattle.oopsbox_c.proofs.flights.append.Goals as goal
 pub returns-in-Done : goal.returns-in-Done
 returns-in-Done c =
     subst (λ (e : End). AppendEnds e c.args.place.now c.args.image.now c.args.payload.now c.args.flight.now
-    c.finish_plain.new.flight c.args.stores.now c.finish_plain.new.stores) (sym c.in-Done.is)
+    c.first_stores.new.flight c.args.stores.now c.first_stores.new.stores) (sym c.in-Done.is)
     (record {
       begun = c.begin-end.new.flight;
       is_begun = c.in-Done.ensures;
-      is_next = c.finish_plain.ensures c.args.image.now;
+      is_next = c.first_stores.ensures;
     })

@@ -1,5 +1,5 @@
 -- Parities and then words and runs, from no stores on
-use Rattle.std.proofs.Common.{◌≡◌, ℕ, ◌+◌, ◌<◌, ◌≤◌, ◌↔◌, List, sym, ap, ◌∙◌, subst, inl, inr, arith}
+use Rattle.std.proofs.Common.{◌≡◌, ℕ, ◌<◌, List, sym, ap, ◌∙◌, subst, inl, inr, arith}
 use Rattle.store_steps.specs.declared.steps.Steps.{Steps}
 use Rattle.store_steps.specs.declared.place.Phase.TheVariants.{Finished}
 use Rattle.store_steps.specs.Flying.{flying}

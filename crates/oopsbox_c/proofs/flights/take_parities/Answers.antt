@@ -1,11 +1,9 @@
 -- Each turn takes the stores that come next
-use Rattle.std.proofs.Common.{◌≡◌, ◌+◌, ◌<◌, ◌≤◌, ℕ, List, length, take, refl, sym, ap, ◌∙◌, subst, inl, inr, arith}
+use Rattle.std.proofs.Common.{◌+◌, ◌<◌, ℕ, List, length, take, refl, sym, ap, ◌∙◌, subst, inl, inr, arith}
 use Rattle.std.proofs.lemmas.Grind.{common_steps}
 use Rattle.zone_spec.specs.Stores.{Store as DefinedStore, after_stores}
 use Rattle.store_steps.specs.declared.steps.Steps.{Steps}
-use Rattle.store_steps.specs.declared.store.Given.TheVariants.{Nothing}
-use Rattle.store_steps.specs.Flying.{Flying, flying}
-use Rattle.store_steps.specs.Handed.{handed, handed_count, IsInside}
+use Rattle.store_steps.specs.Handed.{handed, IsInside}
 use Rattle.std.specs.List.{flat_map}
 use Rattle.oopsbox_c.specs.Stores.{row_stores, stores_in}
 use Rattle.oopsbox_c.specs.declared.stores.StoreRow.{StoreRow}

@@ -1,6 +1,6 @@
 -- What was gathered is parity handed out next, and leaves header and data as they were: at most
 -- four stores, not past `until`. For the loop of `take_parities`.
-use Rattle.std.proofs.Common.{◌≡◌, ◌-◌, ◌≤◌, List, ℕ}
+use Rattle.std.proofs.Common.{◌≡◌, ◌-◌, ◌≤◌}
 use Rattle.zone_spec.specs.Stores.{after_stores}
 use Rattle.store_steps.specs.Flying.{Flying, flying}
 use Rattle.store_steps.specs.Machine.{IsKept, IsSameData}

@@ -1,5 +1,5 @@
 -- By the two products
-use Rattle.std.proofs.Common.{◌≡◌, ◌+◌, ◌-◌, ◌*◌, ◌<◌, ◌≤◌, ◌↔◌, ℕ, ap₂, arith}
+use Rattle.std.proofs.Common.{◌≡◌, ◌+◌, ◌-◌, ◌*◌, ◌<◌, ℕ, ap₂, arith}
 use Rattle.std.proofs.lemmas.Grind.{common_steps}
 use Rattle.oopsbox_c.proofs.Blocks.{covers}
 use Rattle.oopsbox_c.proofs.places.has_blocks.Goals as goal

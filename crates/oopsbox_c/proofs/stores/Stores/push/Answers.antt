@@ -1,6 +1,6 @@
 -- After `push` each gathered store, the new one too, lies inside the zone and the lent bytes. The
 -- caller in C relies on it.
-use Rattle.std.proofs.Common.{◌≡◌, ◌+◌, ◌<◌, length, refl, arith}
+use Rattle.std.proofs.Common.{◌+◌, ◌<◌, length, refl, arith}
 use Rattle.std.proofs.lemmas.Grind.{common_steps}
 use Rattle.oopsbox_c.specs.Stores.{IsRowInside}
 use Rattle.oopsbox_c.specs.declared.stores.StoreRow.{StoreRow}

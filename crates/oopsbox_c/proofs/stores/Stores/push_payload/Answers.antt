@@ -1,5 +1,5 @@
 -- After `push_payload` each gathered store, the new one too, lies inside the zone and the lent bytes.
-use Rattle.std.proofs.Common.{◌≡◌, ◌+◌, ◌<◌, length, refl, arith}
+use Rattle.std.proofs.Common.{◌+◌, ◌<◌, length, refl, arith}
 use Rattle.std.proofs.lemmas.Grind.{common_steps}
 use Rattle.oopsbox_c.specs.Stores.{IsRowInside}
 use Rattle.oopsbox_c.specs.declared.stores.StoreRow.{StoreRow}

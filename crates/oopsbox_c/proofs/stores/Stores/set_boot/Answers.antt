@@ -1,6 +1,6 @@
 -- `set_boot` leaves the one store of a boot as row 0, inside the zone, and counts it. An empty one
 -- leaves no store.
-use Rattle.std.proofs.Common.{◌≡◌, ◌+◌, ◌<◌, ◌⊎◌, length, refl, arith, ◌∙◌}
+use Rattle.std.proofs.Common.{◌≡◌, ◌<◌, ◌⊎◌, length, refl, arith, ◌∙◌}
 use Rattle.std.proofs.lemmas.Grind.{common_steps}
 use Rattle.oopsbox_c.specs.Stores.{IsRowInside}
 use Rattle.oopsbox_c.specs.declared.stores.StoreRow.{StoreRow}
