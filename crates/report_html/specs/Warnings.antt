@@ -16,7 +16,7 @@ warned said = Words OPENING.now ∷ Words said ∷ Words CLOSING.now ∷ []
 abbrev pub lacking : Name → List Part
 lacking dump =
     Words OPENING.now ∷ Words (codes "The reason comes from the console; the newest dump, ") ∷ Link dump
-    ∷ Words (codes ", does not contain it.") ∷ Words CLOSING.now ∷ []
+    ∷ Words (codes ", does not contain all of it.") ∷ Words CLOSING.now ∷ []
 
 -- so many headers are bad
 abbrev pub bad_headers : ℕ → List Part

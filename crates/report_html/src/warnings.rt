@@ -30,7 +30,7 @@ fn add_lacking(pieces: &mut Vec<Piece<'_>>, dump: Name) -> Result<(), AllocError
             Piece::Own(OPENING),
             Piece::Own("The reason comes from the console; the newest dump, "),
             Piece::Link(dump),
-            Piece::Own(", does not contain it."),
+            Piece::Own(", does not contain all of it."),
             Piece::Own(CLOSING),
         ],
     )

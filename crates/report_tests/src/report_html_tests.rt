@@ -652,7 +652,7 @@ const CARE: &str = "<p class=\"warn\"><b>Read with care.</b> ";
 fn the_console_tells_and_not_the_dump(rt: HostRuntime) -> Result<(), Fail> {
     let lacks = "</pre>
 <p class=\"warn\"><b>Read with care.</b> The reason comes from the console; the newest dump, \
-<a href=\"#dmesg-ramoops-0\">dmesg-ramoops-0</a>, does not contain it.</p>\n<table class=\"fact\">\n";
+<a href=\"#dmesg-ramoops-0\">dmesg-ramoops-0</a>, does not contain all of it.</p>\n<table class=\"fact\">\n";
     assert!(rt; shows(rt, [OOPS, NONE, NONE, CONSOLE], lacks)?);
     assert!(rt; shows(rt, [SILENT, NONE, NONE, CONSOLE], lacks)?);
     assert!(rt; !shows(rt, [PANIC, NONE, NONE, CONSOLE], CARE)?);

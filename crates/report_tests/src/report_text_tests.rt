@@ -213,7 +213,7 @@ zones 4, records 1
   up         3.0 s
   told by    console-ramoops-0
   image      a
-  careful    the newest dump, dmesg-ramoops-0, does not have this line
+  careful    the newest dump, dmesg-ramoops-0, does not have all of this
 ",
         ),
     ] {
@@ -318,7 +318,7 @@ fn the_console_tells_and_not_the_dump(rt: HostRuntime) -> Result<(), Fail> {
     let text = shown_deaths(rt.alloc(), [OOPS, NONE, NONE, CONSOLE])?;
     let warned = "  told by    console-ramoops-0
   image      a
-  careful    the newest dump, dmesg-ramoops-0, does not have this line
+  careful    the newest dump, dmesg-ramoops-0, does not have all of this
 ";
     assert!(rt; has(text.as_slice(), warned)?);
     Ok(())

@@ -157,7 +157,7 @@ counted_warning words n end = Words words ∷ Count 1 n ∷ Words end ∷ []
 -- the console tells, and not this dump
 abbrev pub lacking : Name → List Part
 lacking dump =
-    Words (codes "  careful    the newest dump, ") ∷ Named dump ∷ Words (codes ", does not have this line\n") ∷ []
+    Words (codes "  careful    the newest dump, ") ∷ Named dump ∷ Words (codes ", does not have all of this\n") ∷ []
 
 abbrev pub plain_warning : List ℕ → List Part
 plain_warning words = Words words ∷ []

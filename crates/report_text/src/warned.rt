@@ -34,7 +34,7 @@ fn add_lacking(pieces: &mut Vec<Piece<'_>>, dump: Name) -> Result<(), AllocError
         &[
             Piece::Own("  careful    the newest dump, "),
             Piece::Named(dump),
-            Piece::Own(", does not have this line\n"),
+            Piece::Own(", does not have all of this\n"),
         ],
     )
 }
