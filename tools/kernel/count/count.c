@@ -44,7 +44,7 @@ static int count_ramoops(void)
 
 	if (!make || !append)
 		return -ENOENT;
-	zone = make(address, size, 0, &ecc, 0, 0, NULL);
+	zone = make(address, size, 0, &ecc, 0, 0, "count");
 	if (IS_ERR(zone))
 		return PTR_ERR(zone);
 	begin = ktime_get();
