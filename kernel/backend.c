@@ -137,12 +137,14 @@ static const struct entry *first_entry(const struct oops_zone *z)
 }
 
 /* All processors' entries by their time: of as many places the zone whose next entry is oldest. */
-static void merge(struct entry *to, size_t all)
+static int merge(struct entry *to, size_t all)
 {
 	size_t *taken = kcalloc(ftraces, sizeof(*taken), GFP_KERNEL);
 	size_t i, oldest, n;
 
-	for (n = 0; taken && n < all; n++) {
+	if (!taken)
+		return -ENOMEM;
+	for (n = 0; n < all; n++) {
 		oldest = ftraces;
 		for (i = 0; i < ftraces; i++) {
 			if (taken[i] == entries(&ftrace[i]))
@@ -155,30 +157,28 @@ static void merge(struct entry *to, size_t all)
 		to[n] = first_entry(&ftrace[oldest])[taken[oldest]++];
 	}
 	kfree(taken);
+	return 0;
 }
 
+/* Without a notice on parity: pstore would count it among the entries, and show all of them shifted. */
 static ssize_t read_ftrace(struct pstore_record *record)
 {
-	u32 i, corrected = 0, bad = 0;
-	size_t all = 0;
 	struct entry *merged;
+	size_t all = 0;
 	ssize_t len;
+	u32 i;
 
-	for (i = 0; i < ftraces; i++) {
+	for (i = 0; i < ftraces; i++)
 		all += entries(&ftrace[i]);
-		corrected += ftrace[i].log ? ftrace[i].corrected : 0;
-		bad += ftrace[i].log ? ftrace[i].bad : 0;
-	}
 	if (!all)
 		return 0;
 	merged = kvcalloc(all, sizeof(*merged), GFP_KERNEL);
 	if (!merged)
 		return -ENOMEM;
-	merge(merged, all);
 	record->type = PSTORE_TYPE_FTRACE;
 	record->id = 0;
-	len = content(record, (u8 *)merged, all * sizeof(*merged), ftrace->place.parity, corrected,
-		      bad);
+	len = merge(merged, all) ?:
+	      content(record, (u8 *)merged, all * sizeof(*merged), 0, 0, 0);
 	kvfree(merged);
 	return len;
 }
