@@ -20,8 +20,6 @@
 #include "settings.h"
 #include "zone.h"
 
-#define MOST_DUMPS 256
-#define MOST_FTRACE 64
 /* From here on the kernel has pmsg before the ftrace zones. 6.1 has not, and 6.12 has. */
 #define PMSG_FIRST (LINUX_VERSION_CODE >= KERNEL_VERSION(6, 2, 0))
 
@@ -137,12 +135,14 @@ static const struct entry *first_entry(const struct oops_zone *z)
 }
 
 /* All processors' entries by their time: of as many places the zone whose next entry is oldest. */
-static void merge(struct entry *to, size_t all)
+static int merge(struct entry *to, size_t all)
 {
 	size_t *taken = kcalloc(ftraces, sizeof(*taken), GFP_KERNEL);
 	size_t i, oldest, n;
 
-	for (n = 0; taken && n < all; n++) {
+	if (!taken)
+		return -ENOMEM;
+	for (n = 0; n < all; n++) {
 		oldest = ftraces;
 		for (i = 0; i < ftraces; i++) {
 			if (taken[i] == entries(&ftrace[i]))
@@ -155,30 +155,28 @@ static void merge(struct entry *to, size_t all)
 		to[n] = first_entry(&ftrace[oldest])[taken[oldest]++];
 	}
 	kfree(taken);
+	return 0;
 }
 
+/* Without a notice on parity, which pstore would take for the end of the last entry. */
 static ssize_t read_ftrace(struct pstore_record *record)
 {
-	u32 i, corrected = 0, bad = 0;
-	size_t all = 0;
 	struct entry *merged;
+	size_t all = 0;
 	ssize_t len;
+	u32 i;
 
-	for (i = 0; i < ftraces; i++) {
+	for (i = 0; i < ftraces; i++)
 		all += entries(&ftrace[i]);
-		corrected += ftrace[i].log ? ftrace[i].corrected : 0;
-		bad += ftrace[i].log ? ftrace[i].bad : 0;
-	}
 	if (!all)
 		return 0;
 	merged = kvcalloc(all, sizeof(*merged), GFP_KERNEL);
 	if (!merged)
 		return -ENOMEM;
-	merge(merged, all);
 	record->type = PSTORE_TYPE_FTRACE;
 	record->id = 0;
-	len = content(record, (u8 *)merged, all * sizeof(*merged), ftrace->place.parity, corrected,
-		      bad);
+	len = merge(merged, all) ?:
+	      content(record, (u8 *)merged, all * sizeof(*merged), 0, 0, 0);
 	kvfree(merged);
 	return len;
 }
@@ -297,19 +295,17 @@ static struct pstore_info backend = {
 
 /* ---- the zones ---- */
 
-static int find_kind(const struct oopsbox_params *params, u32 kind, unsigned int most)
+/* The zones of a kind in the layout: how many, and each of them from `to` on, if that is given. */
+static int find_kind(const struct oopsbox_params *params, u32 kind, struct oops_zone *to)
 {
-	struct oops_zone *z = &zones[count];
-	unsigned int found;
-	int answer = 0;
+	struct oops_zone one;
+	int found, answer;
 
-	for (found = 0; found < most; found++) {
-		answer = zone_find(z + found, params, kind, found);
+	for (found = 0;; found++) {
+		answer = zone_find(to ? to + found : &one, params, kind, found);
 		if (answer)
-			break;
+			return answer < 0 ? answer : found;
 	}
-	count += found;
-	return answer < 0 ? answer : found;
 }
 
 static void place_zones(void)
@@ -326,30 +322,39 @@ static void place_zones(void)
 
 static int find_zones(const struct ramoops_platform_data *data)
 {
+	static const u32 kinds[] = { OOPSBOX_DUMP, OOPSBOX_CONSOLE, OOPSBOX_PMSG, OOPSBOX_FTRACE };
 	u64 parity = data->ecc_info.ecc_size;
 	struct oopsbox_params params =
 		OOPSBOX_PARAMS(data->mem_size, data->record_size, data->console_size,
 			       data->ftrace_size, data->pmsg_size, parity);
-	int found;
+	struct oops_zone *first[ARRAY_SIZE(kinds)], *z;
+	int found[ARRAY_SIZE(kinds)];
+	size_t i, all = 0;
 
 	params.cpus = is_per_cpu && data->ftrace_size ? nr_cpu_ids : 1;
 	params.ftrace_sig = LINUX_VERSION_CODE;
 	params.order = PMSG_FIRST;
-	found = find_kind(&params, OOPSBOX_DUMP, data->record_size ? MOST_DUMPS : 0);
-	if (found < 0)
-		return found;
-	dumps = found;
-	if (data->console_size && find_kind(&params, OOPSBOX_CONSOLE, 1) == 1)
-		console = &zones[count - 1];
-	if (data->pmsg_size && find_kind(&params, OOPSBOX_PMSG, 1) == 1)
-		pmsg = &zones[count - 1];
-	ftrace = &zones[count];
-	found = find_kind(&params, OOPSBOX_FTRACE, data->ftrace_size ? MOST_FTRACE : 0);
-	if (found < 0)
-		return found;
-	ftraces = found;
-	if (!count)
+	for (i = 0; i < ARRAY_SIZE(kinds); i++) {
+		found[i] = find_kind(&params, kinds[i], NULL);
+		if (found[i] < 0)
+			return found[i];
+		all += found[i];
+	}
+	if (!all)
 		return -EINVAL;
+	zones = z = kvcalloc(all, sizeof(*zones), GFP_KERNEL);
+	if (!zones)
+		return -ENOMEM;
+	count = all;
+	for (i = 0; i < ARRAY_SIZE(kinds); z += found[i++]) {
+		first[i] = z;
+		find_kind(&params, kinds[i], z);
+	}
+	dumps = found[0];
+	console = found[1] ? first[1] : NULL;
+	pmsg = found[2] ? first[2] : NULL;
+	ftrace = first[3];
+	ftraces = found[3];
 	place_zones();
 	return 0;
 }
@@ -406,6 +411,7 @@ static void release(void)
 	dumps = 0;
 	ftraces = 0;
 	count = 0;
+	next_dump = 0;
 	kvfree(zones);
 	zones = NULL;
 	table_free();
@@ -421,9 +427,6 @@ static int start(const struct ramoops_platform_data *data)
 {
 	int err;
 
-	zones = kvcalloc(MOST_DUMPS + MOST_FTRACE + 2, sizeof(*zones), GFP_KERNEL);
-	if (!zones)
-		return -ENOMEM;
 	region = (struct region){ .address = data->mem_address, .size = data->mem_size,
 				  .type = data->mem_type };
 	is_per_cpu = data->flags & RAMOOPS_FLAG_FTRACE_PER_CPU;
@@ -507,8 +510,9 @@ static void __exit oopsbox_exit(void)
 module_exit(oopsbox_exit);
 
 /*
- * The kernel exports pstore_register to modules alone that declare a licence compatible with the GPL: this line is what it
- * takes to be loaded. It chooses none for these sources; the project has none yet (README.md).
+ * The kernel exports pstore_register to modules alone that declare a licence compatible with the
+ * GPL: this line is what it takes to be loaded. It chooses none for these sources; the project has
+ * none yet (README.md).
  */
 MODULE_LICENSE("GPL");
 MODULE_DESCRIPTION("ramoops on the proved calls of oopsbox");

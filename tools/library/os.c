@@ -3,6 +3,7 @@
  * the environment and errno. The contracts stand in the toolchain's os/src/c.rt.
  */
 #include <errno.h>
+#include <fcntl.h>
 #include <stddef.h>
 #include <stdint.h>
 #include <stdlib.h>
@@ -61,4 +62,10 @@ int rattle_errno(void)
 void rattle_set_errno(int number)
 {
 	errno = number;
+}
+
+/* A directory, opened for reading: not one that a link at the path's end leads to, unless a "/" follows it. */
+int rattle_open_dir_at(int dir, const char *name)
+{
+	return openat(dir, name, O_RDONLY | O_DIRECTORY | O_NOFOLLOW | O_CLOEXEC);
 }

@@ -121,7 +121,7 @@ fn sizes_may_hold(image: &[u8], known: &Known, aim: &Aim, c: &Candidate, looked:
 }
 
 /// Whether a candidate may have few enough faults, by its words up to this one. `looked` grows by what looking costs.
-pub fn may_hold(
+fn may_hold(
     alloc: Global,
     image: &[u8],
     known: &Known,
@@ -148,4 +148,31 @@ pub fn may_hold(
             Ok(!misses)
         }
     }
+}
+
+/// Whether a candidate may have few enough faults, by its words up to this one. What looking costs is spent.
+pub fn weigh(
+    alloc: Global,
+    image: &[u8],
+    known: &Known,
+    level: Level,
+    aim: &Aim,
+    c: &Candidate,
+    sights: &mut Sights,
+    state: &mut Progress,
+) -> Result<bool, AllocError>
+    requires aim { IsAim image.now aim.now }
+    requires seen { AreSeen image.now sights.old }
+    requires passed { IsPassed (Some level) known.now (length image.now) c.now }
+    ensures advances { OnOk result (Advances state.old state.new) }
+    ensures best { OnOk result (state.new.best ≡ state.old.best) }
+    ensures seen { OnOk result (AreSeen image.now sights.new) }
+    ensures passed { IfOk result (λ may. may ≡ true → IsPassed (next level) known.now (length image.now) c.now) }
+    ensures refused { IfOk result (λ may. may ≡ false → (s : ProgressValue)
+        → SettledOver known.now image.now aim.now (after level) c.now s) }
+{
+    let mut looked = 4;
+    let may = may_hold(alloc, image, known, level, aim, c, sights, &mut looked)?;
+    spend(state, looked);
+    Ok(may)
 }

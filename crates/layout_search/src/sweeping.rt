@@ -12,7 +12,7 @@ ghost use Rattle.layout_search.specs.Walked.{is_walked, all_levels};
 use crate::levels::{Level, Reached, counted, having, next, nowhere, values};
 use crate::lists::Lists;
 use crate::progress::{Aim, Best, Progress};
-use crate::refusing::{may_hold, spend};
+use crate::refusing::weigh;
 use crate::sights::Sights;
 use crate::tagging::try_tags;
 use layout_spec::{Candidate, Known};
@@ -69,18 +69,7 @@ fn walk(
     for k in 0..list.len() {
         let candidate = having(c, level, list[k]);
         let near = narrowed(aim, &state.best);
-        let mut looked = 4;
-        let may = may_hold(
-            alloc,
-            image,
-            known,
-            level,
-            &near,
-            &candidate,
-            sights,
-            &mut looked,
-        )?;
-        spend(state, looked);
+        let may = weigh(alloc, image, known, level, &near, &candidate, sights, state)?;
         if state.work == 0 {
             return Ok(Some(counted(&nowhere(), level, k as u64)));
         }

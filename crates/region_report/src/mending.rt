@@ -2,9 +2,10 @@
 ghost use Rattle.std.specs.Prelude.{◌≡◌, ◌++◌, ℕ, length, map, IfOk, OnOk};
 ghost use Rattle.std.specs.List.{find, range_with_len};
 ghost use Rattle.std.specs.HashMap.{get};
-ghost use Rattle.death_spec.specs.Lines.{lines_from};
+ghost use Rattle.death_spec.specs.Lines.{lines_from, part as part_of};
+ghost use Rattle.report_spec.specs.Doubts.{doubts_between as doubts_in};
 ghost use Rattle.report_spec.specs.Mending.{mended_byte as byte_mended, still_doubted as is_still_doubted, is_keyed};
-ghost use Rattle.report_spec.specs.Mending.{mended_line, line_doubts, mended_text, doubts_left};
+ghost use Rattle.report_spec.specs.Mending.{mended_text, doubts_left};
 ghost use Rattle.region_report.specs.Mendings.{as_seen, is_same_key};
 
 use crate::doubts::doubts_between;
@@ -36,69 +37,34 @@ fn still_doubted(x: &Seen<'_>, y: &Seen<'_>, k: usize) -> bool
     is_doubted(x, k) && is_doubted(y, k)
 }
 
-fn push_mended(text: &mut Vec<u8>, x: &Seen<'_>, y: &Seen<'_>, len: usize) -> Result<(), AllocError>
-    ensures { OnOk result (text.new.items ≡ text.old.items
-        ++ map (byte_mended (as_seen x.now) (as_seen y.now)) (range_with_len 0 len)) }
-{
-    for k in 0..len {
-        text.push(mended_byte(x, y, k))?;
-    }
-    Ok(())
-}
-
-fn push_still_doubted(
-    doubts: &mut Vec<bool>,
-    x: &Seen<'_>,
-    y: &Seen<'_>,
-    len: usize,
-) -> Result<(), AllocError>
-    ensures { OnOk result (doubts.new.items ≡ doubts.old.items
-        ++ map (is_still_doubted (as_seen x.now) (as_seen y.now)) (range_with_len 0 len)) }
-{
-    for k in 0..len {
-        doubts.push(still_doubted(x, y, k))?;
-    }
-    Ok(())
-}
-
-fn add_text(
-    text: &mut Vec<u8>,
-    a: &Seen<'_>,
-    b: &Seen<'_>,
-    line: Line,
-    other: Option<Line>,
-) -> Result<(), AllocError>
-    ensures { OnOk result (text.new.items
-        ≡ text.old.items ++ mended_line (as_seen a.now) (as_seen b.now) line other) }
-{
-    let Some(other) = other else {
-        return text.extend_from_slice(part(a.text, line.start, line.next));
-    };
-    let (x, y) = (stamped(a, line), stamped(b, other));
-    text.extend_from_slice(part(a.text, line.start, line.stamp))?;
-    push_mended(text, &x, &y, x.text.len())
-}
-
-fn add_doubts(
-    doubts: &mut Vec<bool>,
-    a: &Seen<'_>,
-    b: &Seen<'_>,
-    line: Line,
-    other: Option<Line>,
-) -> Result<(), AllocError>
-    ensures { OnOk result (doubts.new.items
-        ≡ doubts.old.items ++ line_doubts (as_seen a.now) (as_seen b.now) line other) }
-{
-    let Some(other) = other else {
-        return doubts.extend_from_slice(doubts_between(a.doubts, line.start, line.next));
-    };
-    let (x, y) = (stamped(a, line), stamped(b, other));
-    doubts.extend_from_slice(doubts_between(a.doubts, line.start, line.stamp))?;
-    push_still_doubted(doubts, &x, &y, x.text.len())
-}
-
 impl MendedText {
     ghost use Rattle.region_report.specs.Mendings.{Mends};
+
+    // Adds this part of a line that the other text does not have.
+    fn add_own(&mut self, a: &Seen<'_>, from: usize, to: usize) -> Result<(), AllocError>
+        ensures text { OnOk result (self.new.text.items
+            ≡ self.old.text.items ++ part_of a.now.text.now from to) }
+        ensures doubts { OnOk result (self.new.doubts.items
+            ≡ self.old.doubts.items ++ doubts_in a.now.doubts.now from to) }
+    {
+        self.text.extend_from_slice(part(a.text, from, to))?;
+        self.doubts
+            .extend_from_slice(doubts_between(a.doubts, from, to))
+    }
+
+    // Adds the bytes of a line that both have.
+    fn add_shared(&mut self, x: &Seen<'_>, y: &Seen<'_>, len: usize) -> Result<(), AllocError>
+        ensures text { OnOk result (self.new.text.items ≡ self.old.text.items
+            ++ map (byte_mended (as_seen x.now) (as_seen y.now)) (range_with_len 0 len)) }
+        ensures doubts { OnOk result (self.new.doubts.items ≡ self.old.doubts.items
+            ++ map (is_still_doubted (as_seen x.now) (as_seen y.now)) (range_with_len 0 len)) }
+    {
+        for k in 0..len {
+            self.text.push(mended_byte(x, y, k))?;
+            self.doubts.push(still_doubted(x, y, k))?;
+        }
+        Ok(())
+    }
 
     // Adds a line of a text, of which another has these lines.
     fn add(
@@ -112,9 +78,12 @@ impl MendedText {
             ≡ find (is_keyed b.now.text.now q) (lines_from b.now.text.now 0) }
         ensures { IfOk result (λ _. Mends (as_seen a.now) (as_seen b.now) line self.old self.new) }
     {
-        let other = partner(a, b, places, line);
-        add_text(&mut self.text, a, b, line, other)?;
-        add_doubts(&mut self.doubts, a, b, line, other)
+        let Some(other) = partner(a, b, places, line) else {
+            return self.add_own(a, line.start, line.next);
+        };
+        let (x, y) = (stamped(a, line), stamped(b, other));
+        self.add_own(a, line.start, line.stamp)?;
+        self.add_shared(&x, &y, x.text.len())
     }
 }
 

@@ -11,6 +11,17 @@ use psz_spec::SizeFault;
 use region_report::TextFault;
 use storage_words::size_fault_text;
 
+// Why no layout is taken.
+const NOT_FOUND: &str = "no layout was found; give it by --param, --cmdline or --dtb";
+
+const UNEXPLAINED: &str = "no layout explains it; give it by --param, --cmdline or --dtb";
+
+const UNFINISHED: &str = "not all layouts were tried; give it by --param, --cmdline or --dtb";
+
+const NOT_THERE: &str = "no layout explains what stands at that place; give it by --param";
+
+const NO_REGION: &str = "no region was found; --memory only looks for ramoops regions";
+
 /// Standard error. A piece of a line that it does not take costs no report, and is remembered.
 #[derive(Drop)]
 pub struct Messages<E: Sink> {
@@ -211,40 +222,13 @@ impl<E: Sink> Messages<E> {
             Failure::Unread => self.tell_line(path, "it could not be read"),
             Failure::Unwritten => self.tell_line(path, "standard output could not be written"),
             Failure::Short { has, needed } => self.tell_short(path, *has, *needed),
-            Failure::NotFound => {
-                self.tell_line(
-                    path,
-                    "no layout was found; give it by --param, --cmdline or --dtb",
-                );
-            }
-            Failure::Unexplained(best) => {
-                self.tell_best(
-                    path,
-                    best,
-                    "no layout explains it; give it by --param, --cmdline or --dtb",
-                );
-            }
-            Failure::Unfinished(best) => {
-                self.tell_best(
-                    path,
-                    best,
-                    "not all layouts were tried; give it by --param, --cmdline or --dtb",
-                );
-            }
+            Failure::NotFound => self.tell_line(path, NOT_FOUND),
+            Failure::Unexplained(best) => self.tell_best(path, best, UNEXPLAINED),
+            Failure::Unfinished(best) => self.tell_best(path, best, UNFINISHED),
             Failure::NoText => self.tell_line(path, "nothing of this packed record inflates"),
             Failure::Unsaved(why) => self.tell_line(path, why),
-            Failure::NotThere => {
-                self.tell_line(
-                    path,
-                    "no layout explains what stands at that place; give it by --param",
-                );
-            }
-            Failure::NoRegion => {
-                self.tell_line(
-                    path,
-                    "no region was found; --memory only looks for ramoops regions",
-                );
-            }
+            Failure::NotThere => self.tell_line(path, NOT_THERE),
+            Failure::NoRegion => self.tell_line(path, NO_REGION),
             Failure::Several(places) => self.tell_several(path, places),
             Failure::NoPlace => self.tell_line(path, "no place is named"),
             Failure::Beyond { has, size, place } => self.tell_beyond(path, *has, *size, *place),

@@ -39,12 +39,10 @@ untouched z call before now made left none u =
 abbrev pub ended : Steps → ℕ → Steps
 ended s count = record s { made = count; place = record s.place { phase = Finished; number = 0 } }
 
-module _ (s : Steps) (line payload : List ℕ) (w : Whole) (count most : ℕ) (was : IsKept (flying s line payload))
-    (kind : s.kind ≡ AppendKind) (parity : s.zone.parity ≡ 0) (none : s.made ≡ 0)
+module _ (s : Steps) (line payload : List ℕ) (w : Whole) (was : IsKept (flying s line payload))
+    (kind : s.kind ≡ AppendKind) (parity : s.zone.parity ≡ 0)
     (stores : whole_handed w payload
-    ≡ plain_stores s.zone s.words.start s.words.size (last_items s.zone.cap payload))
-    (inside : IsWholeInside s.zone.size w payload) (counts : count ≡ length (whole_handed w payload))
-    (few : count ≤ most) where
+    ≡ plain_stores s.zone s.words.start s.words.size (last_items s.zone.cap payload)) where
   is_append : call_of s.kind line payload ≡ Append payload
   is_append = ap (λ (k : CallKind). call_of k line payload) kind
 
@@ -53,7 +51,7 @@ module _ (s : Steps) (line payload : List ℕ) (w : Whole) (count most : ℕ) (w
       let open_for = subst (λ (k : Call). IsOpenFor k s.words s.zone.cap) is_append was.is_open in
       open_for.0
 
-  total : total_of (flying s line payload) ≡ length (whole_handed w payload)
+  pub total : total_of (flying s line payload) ≡ length (whole_handed w payload)
   total =
       ap (λ (k : Call). counted s.zone (call_stages s.zone s.words k)) is_append
       ∙ total_is_plain s.zone s.words payload parity (some_block s.zone was.sound.valid) below
@@ -65,6 +63,15 @@ module _ (s : Steps) (line payload : List ℕ) (w : Whole) (count most : ℕ) (w
       ap (λ (k : Call). call_stores s.zone k before) is_append
       ∙ call_is_plain s.zone s.words payload before parity st.words
       ∙ sym stores
+
+module _ (s : Steps) (line payload : List ℕ) (w : Whole) (count most : ℕ) (was : IsKept (flying s line payload))
+    (kind : s.kind ≡ AppendKind) (parity : s.zone.parity ≡ 0) (none : s.made ≡ 0)
+    (stores : whole_handed w payload
+    ≡ plain_stores s.zone s.words.start s.words.size (last_items s.zone.cap payload))
+    (inside : IsWholeInside s.zone.size w payload) (counts : count ≡ length (whole_handed w payload))
+    (few : count ≤ most) where
+  of_all : total_of (flying s line payload) ≡ length (whole_handed w payload)
+  of_all = total s line payload w was kind parity stores
 
   at_end : IsKept (flying (ended s count) line payload)
   at_end = record {
@@ -81,7 +88,7 @@ module _ (s : Steps) (line payload : List ℕ) (w : Whole) (count most : ℕ) (w
     ring = was.ring;
     is_open = was.is_open;
     ready = inl refl;
-    counted = omega (arith, counts, total);
+    counted = omega (arith, counts, of_all);
     small = was.small;
   }
 
@@ -96,7 +103,7 @@ module _ (s : Steps) (line payload : List ℕ) (w : Whole) (count most : ℕ) (w
         words = st.words;
         underway = record {
           done = ss;
-          whole = all now before st ∙ sym (append-nil ss);
+          whole = all s line payload w was kind parity stores now before st ∙ sym (append-nil ss);
           image = ap (λ x. after_stores x ss) same;
           count = counts;
         };
@@ -108,10 +115,10 @@ module _ (s : Steps) (line payload : List ℕ) (w : Whole) (count most : ℕ) (w
     kept = at_end;
     same = record { zone = refl; words = refl; call = refl };
     fresh = none;
-    made = counts ∙ sym total;
-    few = omega (arith, few, counts, total);
-    count = sym total;
+    made = counts ∙ sym of_all;
+    few = omega (arith, few, counts, of_all);
+    count = sym of_all;
     inside = inside;
-    stores = λ now before st. sym (all now before st);
+    stores = λ now before st. sym (all s line payload w was kind parity stores now before st);
     stands = λ now before st. stands now before st;
   }

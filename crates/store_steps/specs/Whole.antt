@@ -1,12 +1,14 @@
 -- All stores of a call, handed out at once
-use Rattle.std.specs.Prelude.{◌≡◌, ℕ, ◌+◌, ◌≤◌, List, ◌++◌, length, take, drop}
+use Rattle.std.specs.Prelude.{◌≡◌, ℕ, ◌+◌, ◌<◌, ◌≤◌, List, ◌++◌, length, take, drop}
 use Rattle.zone_spec.specs.Stores.{Store, after_stores, byte_stores, word_store}
 use Rattle.zone_spec.specs.Calls.{call_stores}
 use Rattle.store_steps.specs.Counts.{total_of}
-use Rattle.store_steps.specs.Flying.{Flying, IsSameCall}
+use Rattle.store_steps.specs.Flying.{Flying, flying, IsSameCall}
 use Rattle.store_steps.specs.Machine.{IsKept, StandsFor}
 use Rattle.store_steps.specs.PlainAppends.{size_store}
 use Rattle.store_steps.specs.declared.plain.Whole.{Whole}
+use Rattle.store_steps.specs.declared.steps.Steps.{Steps}
+use Rattle.zone_spec.specs.declared.CallKind.TheVariants.{Append}
 
 -- the words, and the bytes of the payload in two runs
 abbrev pub whole_handed : Whole → List ℕ → List Store
@@ -35,3 +37,11 @@ pub record TakesWhole (f g : Flying) (w : Whole) (payload : List ℕ) (most : �
       → whole_handed w payload ≡ call_stores f.zone f.call before
   pub stands : (now before : List ℕ) → StandsFor f now before
       → StandsFor g (after_stores now (whole_handed w payload)) before
+
+-- an append of some bytes without parity, of which no store was handed out, with at most so many
+pub record IsWholeCall (s : Steps) (line payload : List ℕ) (most : ℕ) : Type 0 where
+  pub kind : s.kind ≡ Append
+  pub parity : s.zone.parity ≡ 0
+  pub fresh : s.made ≡ 0
+  pub some : 0 < length payload
+  pub few : total_of (flying s line payload) ≤ most

@@ -1,6 +1,6 @@
 // An append to a zone without parity: all its stores are known at once.
 ghost use Rattle.std.specs.Prelude.{◌≡◌, ◌%◌, ◌+◌, ◌-◌, ◌≤◌, ◌<◌, ℕ, List, true, length, min, if◌then◌else◌, ◌==◌, Some, None};
-ghost use Rattle.std.specs.Prelude.{IfSome, IfNone};
+ghost use Rattle.std.specs.Prelude.{IfSome, IfNone, IsTrue, ◌↔◌};
 ghost use Rattle.zone_spec.specs.Zones.{IsValidZone};
 ghost use Rattle.zone_spec.specs.Told.{last_items};
 ghost use Rattle.store_steps.specs.PlainAppends.{plain_stores, plain_size, size_store};
@@ -67,11 +67,11 @@ fn start_after(start: u32, len: u32, cap: u32) -> u32
 impl Steps {
     ghost use Rattle.store_steps.specs.Flying.{flying};
     ghost use Rattle.store_steps.specs.Machine.{IsKept};
-    ghost use Rattle.store_steps.specs.Whole.{whole_handed, IsWholeInside, TakesWhole};
+    ghost use Rattle.store_steps.specs.Whole.{whole_handed, IsWholeInside, IsWholeCall, TakesWhole};
 
     // Whether the call is an append without parity, of which no store was handed out.
     fn is_plain(&self) -> bool
-        ensures { result ≡ true → (self.now.kind ≡ CallKind.Append) × (self.now.zone.parity ≡ 0) × (self.now.made ≡ 0) }
+        ensures { IsTrue result ↔ (self.now.kind ≡ CallKind.Append) × (self.now.zone.parity ≡ 0) × (self.now.made ≡ 0) }
     {
         match self.kind {
             CallKind::Append => self.zone.parity == 0 && self.made == 0,
@@ -105,12 +105,13 @@ impl Steps {
     }
 
     /// Hands out all stores at once of an append without parity, if none was handed out before and they are at most
-    /// `most`. The call is finished then. Of another call none is handed out.
+    /// `most`. The call is finished then. Of another call none is handed out, nor of an append of no bytes.
     pub fn take_whole(&mut self, line: &[u8], payload: &[u8], most: u64) -> Option<Whole>
         requires { IsKept (flying self.old line.now payload.now) }
         ensures taken { IfSome result (λ w. TakesWhole (flying self.old line.now payload.now)
             (flying self.new line.now payload.now) w payload.now most) }
         ensures kind { self.new.kind ≡ self.old.kind }
+        ensures due { IfNone result (¬ (IsWholeCall self.old line.now payload.now most)) }
         ensures none { IfNone result (self.new ≡ self.old) }
     {
         let _ = line;

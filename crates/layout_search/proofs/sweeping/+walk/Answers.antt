@@ -32,9 +32,9 @@ walk-requires t c =
     (c.values-list.ensures known len c.requires.lists) c.loop-k-test.true c.requires.listed in
     let passed = subst (λ (o : Option Level). IsPassed o known len c.having-candidate.result) (sym c.next.ensures)
     (c.in_ok-may.ensures.passed c.if-not-may.false) in
-    let sound = subst (λ (b : Option Candidate). IsSound known c.args.image.now b c.spend.new.state.best)
+    let sound = subst (λ (b : Option Candidate). IsSound known c.args.image.now b c.weigh.new.state.best)
     (sym c.narrowed-near.ensures.besides_is)
-    (subst (IsSound known c.args.image.now c.args.aim.now.besides) (sym c.spend.ensures.best) c.loop-k.invariant.sound) in
+    (subst (IsSound known c.args.image.now c.args.aim.now.besides) (sym c.in_ok-may.ensures.best) c.loop-k.invariant.sound) in
     let near = near_aim c.args.image.now c.args.aim.now c.narrowed-near.result c.loop-k.state.best c.narrowed-near.ensures
     c.requires.aim in
     let ordered : c.having-candidate.result.byte_order ≡ byte_order_for known c.args.image.now =
@@ -60,12 +60,12 @@ returns-then-state-eq0-clause-settled t c =
     let aim = c.args.aim.now in
     let level = c.in-Some.level in
     let list = c.values-list.result.now in
-    let s = c.spend.new.state in
+    let s = c.weigh.new.state in
     let here = having level c.args.c.now (get_or list c.loop-k.k 0) in
     stop_here known image aim c.args.level level c.args.c.now s c.nowhere.result c.counted.result list c.loop-k.k
     c.in-Some.is
     c.counted.ensures (c.values-list.ensures known (length image) c.requires.lists)
-    (λ j lt. over_later known image aim (after level) _ c.loop-k.state s c.spend.ensures.advances
+    (λ j lt. over_later known image aim (after level) _ c.loop-k.state s c.in_ok-may.ensures.advances
     (c.loop-k.invariant.settled j lt))
     (subst (λ (r : Reached). SettledBefore known image aim (after level) here s r) (sym c.nowhere.ensures)
     (before_nowhere known (length image) (TagsSettled known image aim s) (after level) here))
@@ -75,16 +75,16 @@ loop-k-preserved-then-not-may t c =
     let known = c.args.known.now in
     let image = c.args.image.now in
     let aim = c.args.aim.now in
-    let s = c.spend.new.state in
+    let s = c.weigh.new.state in
     let old = c.loop-k.invariant in
     let here = rw c.having-candidate.ensures at (c.in_ok-may.ensures.refused c.if-not-may.true s) in
     let last = settled_wider known image aim c.narrowed-near.result (after c.in-Some.level) _ c.loop-k.state s
-    c.narrowed-near.ensures old.sound c.spend.ensures.advances here in record {
-      advances = advances_trans old.advances c.spend.ensures.advances;
+    c.narrowed-near.ensures old.sound c.in_ok-may.ensures.advances here in record {
+      advances = advances_trans old.advances c.in_ok-may.ensures.advances;
       settled = one_more known image aim c.in-Some.level c.args.c.now c.values-list.result.now c.loop-k.k
           c.loop-k.state s
-          c.spend.ensures.advances old.settled last;
-      sound = subst (IsSound known image aim.besides) (sym c.spend.ensures.best) old.sound;
+          c.in_ok-may.ensures.advances old.settled last;
+      sound = subst (IsSound known image aim.besides) (sym c.in_ok-may.ensures.best) old.sound;
       seen = c.in_ok-may.ensures.seen;
     }
 
@@ -96,7 +96,7 @@ returns-in-Some-stop-clause-settled t c =
     let level = c.in-Some.level in
     let list = c.values-list.result.now in
     let s = c.walk.new.state in
-    let adv = advances_trans c.spend.ensures.advances c.in_ok-stop.ensures.advances in
+    let adv = advances_trans c.in_ok-may.ensures.advances c.in_ok-stop.ensures.advances in
     let inner = c.in-Some-stop.inner in
     stop_here known image aim c.args.level level c.args.c.now s inner c.counted-in-Some-stop.result list c.loop-k.k
     c.in-Some.is
@@ -126,7 +126,7 @@ loop-k-preserved t c =
     let aim = c.args.aim.now in
     let old = c.loop-k.invariant in
     let s = c.walk.new.state in
-    let adv = advances_trans c.spend.ensures.advances c.in_ok-stop.ensures.advances in
+    let adv = advances_trans c.in_ok-may.ensures.advances c.in_ok-stop.ensures.advances in
     let list = c.values-list.result.now in
     let here = step_settled known image c.narrowed-near.result c.next.result c.in-Some.level c.args.c.now
     c.having-candidate.result

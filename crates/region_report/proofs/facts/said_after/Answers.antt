@@ -1,5 +1,5 @@
 -- A line that says the words, or the lines below it. For the loop of `said_after`.
-use Rattle.std.proofs.Common.{List, ℕ, ap, ap₂, sym, ◌∙◌, ◌≡◌, ◌∷◌, length}
+use Rattle.std.proofs.Common.{List, ℕ, ap, sym, ◌∙◌, ◌≡◌, length}
 use Rattle.std.specs.List.{starts_with}
 use Rattle.std.proofs.Common.{nat_eq, true, false}
 use Rattle.death_spec.specs.Lines.{part, said, lines_from}

@@ -1,5 +1,5 @@
 -- A digit more, or the end of the number. For the loop of `seconds`.
-use Rattle.std.proofs.Common.{◌+◌, drop, ap, sym, ◌∙◌, arith}
+use Rattle.std.proofs.Common.{◌+◌, drop, ap, sym, ◌∙◌}
 use Rattle.report_spec.specs.Facts.{seconds_from}
 use Rattle.region_report.proofs.DigitRuns.{digit_more, no_digit, digits_past}
 use Rattle.region_report.proofs.facts.seconds.Goals as goal

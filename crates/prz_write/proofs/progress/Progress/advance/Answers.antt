@@ -1,7 +1,8 @@
 -- A whole append is all its stores, and any other call is made one after another. For `Progress::advance`.
-use Rattle.std.proofs.Common.{◌≡◌, take, drop, sym, subst}
+use Rattle.std.proofs.Common.{◌≡◌, ◌+◌, min, take, drop, sym, subst}
 use Rattle.zone_spec.specs.Calls.{call_stores}
 use Rattle.prz_region.specs.CutRegion.{span, stored}
+use Rattle.store_steps.specs.Counts.{total_of}
 use Rattle.store_steps.specs.Machine.{IsKept, StandsFor}
 use Rattle.prz_write.specs.declared.progress.Progress.{Progress}
 use Rattle.prz_write.specs.Calls.{call_seen}
@@ -38,6 +39,11 @@ returns-in-Some-clause-stores c =
 pub make_stores-requires-clause-held : goal.make_stores-requires-clause-held
 make_stores-requires-clause-held c =
     subst IsHeld (sym (same_steps c.args.self.now c.take_whole.new.self c.in-None.ensures.none)) c.requires.held
+
+pub returns-in-None-clause-made : goal.returns-in-None-clause-made
+returns-in-None-clause-made c =
+    subst (λ (p : Progress). c.make_stores.new.self.steps.made ≡ min (p.steps.made + c.args.count) (total_of (seen p)))
+    (same_steps c.args.self.now c.take_whole.new.self c.in-None.ensures.none) c.make_stores.ensures.made
 
 pub returns-in-None-clause-stands : goal.returns-in-None-clause-stands
 returns-in-None-clause-stands c = λ before stands.

@@ -1,7 +1,6 @@
 -- What was begun is held, with no store made, and stands for the bytes at hand. For
 -- `Progress::begin`.
-use Rattle.std.proofs.Common.{◌≡◌, ◌≤◌, List, ℕ, length, sym, ap, ◌∙◌, subst, arith}
-use Rattle.prz_write.specs.declared.progress.Progress.{Progress}
+use Rattle.std.proofs.Common.{◌≡◌, List, ℕ, length, ap, ◌∙◌, subst, arith}
 use Rattle.store_steps.specs.Flying.{Flying, flying}
 use Rattle.store_steps.specs.Machine.{IsKept, StandsFor}
 use Rattle.prz_write.specs.Seen.{seen}
