@@ -149,7 +149,8 @@ struct oopsbox_params {
  * OOPSBOX_DONE: *place and *answer were written; the answer's word and fault are 0.
  * OOPSBOX_FAULT: there is no layout; *answer tells the fault's number, its zones, word and mem are 0. *place is as it
  * was.
- * OOPSBOX_ARGUMENT: kind is above OOPSBOX_PMSG, or there is a layout without such a zone; nothing was written.
+ * OOPSBOX_ARGUMENT: kind is above OOPSBOX_PMSG, order or byte_order is above 1, or there is a layout without such a
+ * zone; nothing was written.
  */
 uint32_t oopsbox_zone_at(const struct oopsbox_params *params, uint32_t kind, uint32_t index,
 			 struct oopsbox_zone_place *place, struct oopsbox_layout_answer *answer);
@@ -206,7 +207,7 @@ struct oopsbox_store {
 	uint8_t bytes[128]; /* BYTES: the first len of these; WORD: the first four are the word's */
 };
 
-/* The next stores of a call: stores[0 .. count), in this order. What is behind them in the array is not to be read.
+/* The next stores of a call: stores[0 .. count), in this order. What is after them in the array is not to be read.
    616 bytes. */
 struct oopsbox_stores {
 	struct oopsbox_store stores[4];
@@ -248,7 +249,7 @@ uint32_t oopsbox_dump_begin(const struct oopsbox_zone_place *place, const uint8_
  *
  * One answer goes up to the next parity: an append without parity has one answer, one with parity mostly two.
  *
- * OOPSBOX_DONE: *stores are the next ones, at least one where one is left, and at most `most`; *flight stands behind
+ * OOPSBOX_DONE: *stores are the next ones, at least one where one is left, and at most `most`; *flight stands after
  * them. stores->is_last is 1 if none is left then. Who asks again gets none, and is_last again.
  * OOPSBOX_ARGUMENT: *flight is none of a call with a line and a payload of these lengths, zone_len is not the zone's
  * size, line_len is above 36, table_len is neither 0 nor 256, or most is 0; nothing was written.
@@ -318,7 +319,7 @@ uint32_t oopsbox_boot_begin(const struct oopsbox_zone_place *place, const uint8_
  * There is no line and no payload, so `what` is OOPSBOX_WORD or OOPSBOX_BYTES. The last answer has no stores: its count
  * is 0 and its is_last 1, and both are so in no other. Then the zone can be written.
  *
- * OOPSBOX_DONE: *stores are the next ones; *boot stands behind them.
+ * OOPSBOX_DONE: *stores are the next ones; *boot stands after them.
  * OOPSBOX_ARGUMENT: *boot has numbers that no boot has, or zone_len is not the zone's size; nothing was written.
  */
 uint32_t oopsbox_boot_next(struct oopsbox_boot *boot, const uint8_t *zone, size_t zone_len,
@@ -428,7 +429,7 @@ struct oopsbox_report_answer {
  * words. Without a tree, words such as pstore_blk.kmsg_size=64 (in KiB) are of a storage of the kernel's pstore_blk; and
  * without words too, an image with one of its dumps is such a storage. It allocates.
  *
- * OOPSBOX_DONE: the first answer->text bytes of text are the report, behind answer->hint bytes of lines on a layout that
+ * OOPSBOX_DONE: the first answer->text bytes of text are the report, after answer->hint bytes of lines on a layout that
  * was looked for, each with its newline: the layout's words, and those of another that explains as much. Of a storage
  * they are its sizes, that no dump is of a panic, and the zones at which the kernel's own listing fails.
  * OOPSBOX_UNLAID: the layout was looked for and none is taken. answer->fault is 1: none was found; 2: none explains the
