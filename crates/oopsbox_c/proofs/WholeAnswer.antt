@@ -1,6 +1,6 @@
 -- An append without parity, handed out whole, is at its end
-use Rattle.std.proofs.Common.{◌≡◌, ℕ, ◌+◌, ◌-◌, ◌≤◌, List, [], ◌∷◌, ◌++◌, length, take, drop, refl, sym, ap, ◌∙◌, subst, arith}
-use Rattle.std.proofs.Common.{inr, length-append}
+use Rattle.std.proofs.Common.{◌≡◌, ℕ, ◌+◌, ◌-◌, ◌≤◌, List, [], ◌∷◌, ◌++◌, length, take, drop, refl, sym, ap, ◌∙◌}
+use Rattle.std.proofs.Common.{subst, arith, inr, length-append}
 use Rattle.std.specs.List.{sum_by}
 use Rattle.std.proofs.lemmas.List.{take_all, drop_all}
 use Rattle.zone_spec.specs.Stores.{Store, after_stores, byte_stores, word_store}

@@ -48,7 +48,8 @@ whole_from f now before line payload z call (a ∷ b ∷ answers) ez ec stands h
     let all : List Store = call_stores z call before in
     let xs : List Store = stores_in a.stores line payload in
     let rest = whole_from a.flight (after_stores now xs) before line payload z call (b ∷ answers)
-    (ap zone_in h.0.zone ∙ ez) (h.0.same.call ∙ ec) (h.0.stands now before (itself f now line payload) stands) h.1 end in
+    (ap zone_in h.0.zone ∙ ez) (h.0.same.call ∙ ec)
+    (h.0.stands now before (itself f now line payload) stands) h.1 end in
     ap₂ (λ (u v : List Store). u ++ v) (next_of f a now before line payload z call ez ec stands h.0)
     (rest ∙ ap (λ (k : ℕ). drop k all) h.0.made)
     ∙ ap (λ (v : List Store). take (length xs) (drop f.made all) ++ v) (sym (drop-drop (length xs) f.made all))

@@ -11,8 +11,8 @@ ghost use Rattle.shared_spec.specs.Runs.{Reserve, StoreNext};
 ghost use Rattle.shared_spec.specs.Histories.{History, CanOpen, shared_zone, and_then, image_left};
 ghost use Rattle.shared_ring.specs.declared.seats.Seat.{Seat as ASeat};
 ghost use Rattle.shared_ring.specs.Seats.{next_of};
-ghost use Rattle.shared_ring.specs.Seen.{IsLeftBy, stores, HasStored, reserving, next_store, words_seen, seated, stepped};
-ghost use Rattle.shared_ring.specs.Seen.{IsReserved, IsStepped};
+ghost use Rattle.shared_ring.specs.Seen.{IsLeftBy, stores, words_seen, seated, stepped, IsReserved, IsStepped};
+ghost use Rattle.shared_ring.specs.Seen.{HasStored, reserving, next_store};
 
 use crate::seats::{Seat, count_stored, find, held, next_byte, show};
 use arrayvec::ArrayVec;

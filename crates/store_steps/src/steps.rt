@@ -36,8 +36,8 @@ impl Steps {
     ghost use Rattle.store_steps.specs.Calls.{call_of, body_stages};
     ghost use Rattle.store_steps.specs.Phases.{IsSound, IsPlaced, IsFinished, IsDone, first_len, second_len, first_end};
     ghost use Rattle.store_steps.specs.Phases.{second_end, phase_len};
-    ghost use Rattle.store_steps.specs.Machine.{Enters, next_stores, stores_left, IsKept, StandsFor, IsSettled, IsParity};
-    ghost use Rattle.store_steps.specs.Machine.{IsSameData, IsAlike};
+    ghost use Rattle.store_steps.specs.Machine.{Enters, next_stores, IsKept, StandsFor, IsSettled, IsParity};
+    ghost use Rattle.store_steps.specs.Machine.{IsSameData, IsAlike, stores_left};
     ghost use Rattle.store_steps.specs.Counts.{pairs_of, total_of, touched_runs};
     ghost use Rattle.store_steps.specs.Handed.{handed, handed_count, IsInside};
     ghost use Rattle.zone_spec.specs.Calls.{call_stores};
