@@ -176,6 +176,42 @@ fn a_region_of_a_memory(rt: HostRuntime) -> Result<(), Fail> {
     Ok(())
 }
 
+// A zone that begins with these bytes, and zeros.
+fn add_zone(bytes: &mut Vec<u8>, front: &[u8], size: usize) -> Result<(), Fail> {
+    let end = bytes.len().saturating_add(size);
+    bytes.extend_from_slice(front)?;
+    bytes.resize(end, 0)?;
+    Ok(())
+}
+
+// A page of zeros, and a region of 1 MiB as a kernel lays it out for record_size=0x20000: seven dumps of 148,040 bytes
+// without a log, a console, a trace and a pmsg of 4,096, and eight bytes. Only the first zone begins at a page.
+fn uneven_region(alloc: Global) -> Result<Vec<u8>, Fail> {
+    let mut bytes = Vec::new(alloc);
+    add_zone(&mut bytes, &[], 4_096)?;
+    for _ in 0..7 {
+        add_zone(&mut bytes, b"DBGC", 148_040)?;
+    }
+    let console = b"DBGC\x21\0\0\0\x21\0\0\0Kernel panic - not syncing: gone\n";
+    add_zone(&mut bytes, console, 4_096)?;
+    add_zone(&mut bytes, b"DBEC", 4_096)?;
+    add_zone(&mut bytes, b"DBGC", 4_096)?;
+    add_zone(&mut bytes, &[], 8)?;
+    Ok(bytes)
+}
+
+#[test]
+fn a_region_whose_zones_begin_at_no_page(rt: HostRuntime) -> Result<(), Fail> {
+    let asked = asked(known(&[]), Format::Text, Logs::Never, Some(WHOLE), false);
+    let done = run_on(rt.alloc(), &asked, uneven_region(rt.alloc())?)?;
+    let line =
+        "\nfile@0x9000: 1048576 bytes; layout found: record_size=131072 console_size=4096 ftrace_size=4096 pmsg_size=4096 ";
+    let died = "died: Kernel panic - not syncing: gone\n";
+    let is_told = begins_and_has(&done.out, died, line)?;
+    assert!(rt; is_told && done.errors.is_empty() && !done.has_failed);
+    Ok(())
+}
+
 #[test]
 fn refusals_of_a_memory(rt: HostRuntime) -> Result<(), Fail> {
     let at = WholeMemory {
