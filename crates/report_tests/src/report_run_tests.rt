@@ -9,11 +9,13 @@ use report_tool::{Format, Known, known};
 use std::alloc::Global;
 use std::test::Fail;
 
-// One file, whatever its path.
+// One file, whatever its path, or none.
 #[derive(Drop)]
 struct Held {
     alloc: Global,
     bytes: Bytes,
+    is_missing: bool,
+    unopened: u64,
 }
 
 impl Images for Held {
@@ -21,26 +23,41 @@ impl Images for Held {
 
     ghost content = { λ s _ _. Some s.bytes };
 
+    ghost unopened = { λ s. s.unopened };
+
     ghost faults = { λ _. 0 };
 
     fn open(&mut self, _path: &str, _wanted: Wanted) -> Result<ReadOnly, Failure> {
+        if self.is_missing {
+            let why = String::from_str(self.alloc, "it is missing")?;
+            self.unopened = self.unopened.saturating_add(1);
+            return Err(Failure::Unopened(why));
+        }
         Ok(ReadOnly::new(Vec::from_slice(self.alloc, self.bytes.as_slice())?))
     }
 
     fn close(&mut self, _image: ReadOnly) {}
 }
 
-// A folder that takes every record.
+// A folder that takes every record, or none.
 #[derive(Drop)]
 struct Taken {
-    count: usize,
+    alloc: Global,
+    is_full: bool,
+    faults: u64,
 }
 
 impl Records for Taken {
     ghost made = { λ _. None };
 
+    ghost faults = { λ s. s.faults };
+
     fn save(&mut self, _report: &Report) -> Result<(), Failure> {
-        self.count = self.count.saturating_add(1);
+        if self.is_full {
+            let why = String::from_str(self.alloc, "the folder is full")?;
+            self.faults = self.faults.saturating_add(1);
+            return Err(Failure::Unsaved(why));
+        }
         Ok(())
     }
 }
@@ -113,15 +130,33 @@ fn run_within(
     bytes: Vec<u8>,
     room: u32,
 ) -> Result<Done, Fail> {
-    let mut paths = Vec::new(alloc);
-    paths.push(String::from_str(alloc, path)?)?;
-    let mut held = Held {
+    let held = Held {
         alloc,
         bytes: Bytes::from_vec(bytes),
+        is_missing: false,
+        unopened: 0,
     };
+    run_over(alloc, asked, path, held, false, room)
+}
+
+// Of one file, with a folder for its records that may be full.
+fn run_over(
+    alloc: Global,
+    asked: &Asked,
+    path: &str,
+    mut held: Held,
+    is_full: bool,
+    room: u32,
+) -> Result<Done, Fail> {
+    let mut paths = Vec::new(alloc);
+    paths.push(String::from_str(alloc, path)?)?;
     let mut out = sink(alloc, room)?;
     let mut messages = Messages::new(sink(alloc, 65_536)?);
-    let mut taken = Taken { count: 0 };
+    let mut taken = Taken {
+        alloc,
+        is_full,
+        faults: 0,
+    };
     let has_failed = run(
         alloc,
         asked,
@@ -137,6 +172,18 @@ fn run_within(
         errors: Vec::from_slice(alloc, messages.errors.bytes())?,
         has_failed,
     })
+}
+
+// A text log that tells of a panic, as a file that may be missing, saved in a folder that may be full.
+fn run_refused(alloc: Global, is_missing: bool, is_full: bool) -> Result<Done, Fail> {
+    let held = Held {
+        alloc,
+        bytes: Bytes::from_vec(Vec::from_slice(alloc, b"Kernel panic - not syncing: one\n")?),
+        is_missing,
+        unopened: 0,
+    };
+    let asked = asked(known(&[]), Format::Brief, Logs::Texts, None, true);
+    run_over(alloc, &asked, "file", held, is_full, 65_536)
 }
 
 fn run_on(alloc: Global, asked: &Asked, bytes: Vec<u8>) -> Result<Done, Fail> {
@@ -261,6 +308,29 @@ fn logs_with_zero_bytes(rt: HostRuntime) -> Result<(), Fail> {
         assert!(rt; done.has_failed != is_log);
         let has_panic = begins_and_has(&done.out, "died: Kernel panic", "console-ramoops-0\n")?;
         assert!(rt; has_panic == is_log);
+    }
+    Ok(())
+}
+
+#[test]
+fn a_file_that_is_missing(rt: HostRuntime) -> Result<(), Fail> {
+    let done = run_refused(rt.alloc(), true, false)?;
+    assert!(rt; done.errors.as_slice() == b"oopsreport: file: it is missing\n".as_slice());
+    assert!(rt; done.out.is_empty() && done.has_failed);
+    Ok(())
+}
+
+// It is reported all the same.
+#[test]
+fn records_that_are_not_saved(rt: HostRuntime) -> Result<(), Fail> {
+    let line = b"file  -  kernel panic: one\n".as_slice();
+    for (is_full, errors) in [
+        (false, b"".as_slice()),
+        (true, b"oopsreport: file: the folder is full\n".as_slice()),
+    ] {
+        let done = run_refused(rt.alloc(), false, is_full)?;
+        assert!(rt; done.out.as_slice() == line && done.errors.as_slice() == errors);
+        assert!(rt; done.has_failed == is_full);
     }
     Ok(())
 }
