@@ -5,9 +5,11 @@ ghost use Rattle.death.specs.Rows.{Covers};
 ghost use Rattle.death_spec.specs.Lines.{bracket_end, level_len, stamp_len, caller_len, unreturned_len, uncoloured_len};
 ghost use Rattle.death_spec.specs.Lines.{content, line_of};
 ghost use Rattle.death_spec.specs.Lines.{lines_from, part, digits_level, level_of, is_kernels, said, kind, is_a};
-ghost use Rattle.death_spec.specs.Lines.{unnumbered, mark_in};
+ghost use Rattle.death_spec.specs.Lines.{unnumbered, hung_mark, mark_in};
 
-use crate::marks::{byte_at, is_mark, line_len, mark_by, mark_of, run_from, starts_with, tail};
+use crate::marks::{
+    byte_at, front_len, is_mark, line_len, mark_by, mark_of, place_of, run_from, starts_with, tail,
+};
 use crate::prefixes::past_pieces;
 use death_spec::{Class, Line, Mark};
 
@@ -175,7 +177,23 @@ pub fn said(text: &[u8], line: Line) -> &[u8]
 pub fn unnumbered(words: &[u8]) -> &[u8]
     ensures { result.now ≡ unnumbered words.now }
 {
-    part(words, run_from(words, 4, Class::Digit) + 1, words.len())
+    let end = run_from(words, front_len(words), Class::Digit);
+    if byte_at(words, end) == b':' {
+        part(words, end + 2, words.len())
+    } else {
+        part(words, end + 1, words.len())
+    }
+}
+
+// What a line is that names a task: it counts if it says how long the task was blocked.
+fn hung_mark(words: &[u8]) -> Option<Mark>
+    ensures { result ≡ hung_mark words.now }
+{
+    if place_of(words, Mark::Blocked) < words.len() {
+        Some(Mark::HungTask)
+    } else {
+        None
+    }
 }
 
 // A processor's number can stand before the words that count.
@@ -185,7 +203,11 @@ fn mark_in(words: &[u8], mark: Option<Mark>) -> Option<Mark>
     if is_mark(mark, Mark::Numbered) {
         mark_of(unnumbered(words))
     } else {
-        mark
+        if is_mark(mark, Mark::HungTask) {
+            hung_mark(words)
+        } else {
+            mark
+        }
     }
 }
 

@@ -8,7 +8,7 @@ ghost use Rattle.death_spec.specs.Traces.{is_entry, name_in};
 ghost use Rattle.death_spec.specs.Reports.{report, first_where, first_in, own_in, trace_in, span, number_end, task_at};
 ghost use Rattle.death_spec.specs.Reports.{task_end, cpu_in, task_in, kernel_in, hung_in, task_of, named_from, place_end};
 ghost use Rattle.death_spec.specs.Reports.{name_from, blamed_at, place_in, entry_end, entry_in, traced_in, is_next_at};
-ghost use Rattle.death_spec.specs.Reports.{own_kernel_in, kernel_of, message_of};
+ghost use Rattle.death_spec.specs.Reports.{own_kernel_in, kernel_of, message_of, is_lockup, locked_at, locked_in, cpu_of};
 ghost use Rattle.death_spec.specs.Reports.{sure, by_call, of_place, of_calls, function_in, death_with, death_at};
 ghost use Rattle.death_spec.specs.declared.Mark.TheVariants.{HungTask, Processor, Place, Link, Own};
 
@@ -157,6 +157,40 @@ fn cpu_in(text: &[u8], line: Option<Line>) -> Option<Span>
 {
     let line = line?;
     span(line, 5, number_end(said(text, line)))
+}
+
+fn is_lockup(kind: Option<Mark>) -> bool
+    ensures { result ≡ is_lockup kind }
+{
+    is_mark(kind, Mark::SoftLockup) || is_mark(kind, Mark::HardLockup)
+}
+
+// Where the number begins of the processor that a lockup's line names.
+fn locked_at(words: &[u8]) -> usize
+    ensures at { result ≡ locked_at words.now }
+    ensures within { result ≤ length words.now }
+{
+    let place = place_of(words, Mark::Locked);
+    place + front_len(tail(words, place))
+}
+
+fn locked_in(text: &[u8], line: Line) -> Option<Span>
+    ensures { result ≡ locked_in text.now line }
+{
+    let words = said(text, line);
+    let from = locked_at(words);
+    span(line, from, run_from(words, from, Class::Digit))
+}
+
+// The processor that a lockup's line names, else the report's.
+fn cpu_of(text: &[u8], telling: Line, processor: Option<Line>) -> Option<Span>
+    ensures { result ≡ cpu_of text.now telling processor }
+{
+    if is_lockup(kind(text, telling)) {
+        locked_in(text, telling).or(cpu_in(text, processor))
+    } else {
+        cpu_in(text, processor)
+    }
 }
 
 fn task_in(text: &[u8], line: Option<Line>) -> Option<Span>
@@ -377,7 +411,7 @@ pub fn death_at(text: &[u8], telling: Line, second: Option<Line>) -> Death
         telling,
         second,
         message: message_of(text, telling),
-        cpu: cpu_in(text, named.processor),
+        cpu: cpu_of(text, telling, named.processor),
         task: task_of(text, telling, named.processor),
         kernel: kernel_of(text, telling, named),
         function: span_of(function),

@@ -10,7 +10,7 @@ use Rattle.death_spec.specs.declared.Death.{Death}
 use Rattle.death_spec.specs.declared.Class.TheVariants.{Blank, Digit, Name}
 use Rattle.death_spec.specs.declared.Mark.{Mark}
 use Rattle.death_spec.specs.declared.Mark.TheVariants.{Fault, Warning, HungTask, Processor, Place, Link, Kernel, Blocked, Offset}
-use Rattle.death_spec.specs.declared.Mark.TheVariants.{Own, Cut, Message}
+use Rattle.death_spec.specs.declared.Mark.TheVariants.{Own, Cut, Message, SoftLockup, HardLockup, Locked}
 use Rattle.death_spec.specs.declared.Above.{Above}
 use Rattle.death_spec.specs.Marks.{run, is_mark, front_len, begins, place_of, is_blank}
 use Rattle.death_spec.specs.Lines.{lines_from, part, said, kind, is_a}
@@ -63,6 +63,24 @@ task_end words = number_end words + place_of Kernel (drop (number_end words) wor
 abbrev pub cpu_in : List ℕ → Option Line → Option Span
 cpu_in text None = None
 cpu_in text (Some line) = span line 5 (number_end (said text line))
+
+-- the processor of a lockup: `.. soft lockup - CPU#1 stuck for 5s! ..`, `.. detected hard LOCKUP on cpu 3`
+abbrev pub is_lockup : Option Mark → Bool
+is_lockup kind = is_mark SoftLockup kind || is_mark HardLockup kind
+
+abbrev pub locked_at : List ℕ → ℕ
+locked_at words = place_of Locked words + front_len (drop (place_of Locked words) words)
+
+abbrev pub locked_in : List ℕ → Line → Option Span
+locked_in text line =
+    span line (locked_at (said text line))
+    (locked_at (said text line) + run Digit (drop (locked_at (said text line)) (said text line)))
+
+-- the one that a lockup's line names, else the report's
+abbrev pub cpu_of : List ℕ → Line → Option Line → Option Span
+cpu_of text telling processor =
+    if is_lockup (kind text telling) then option_or (locked_in text telling) (cpu_in text processor)
+    else cpu_in text processor
 
 abbrev pub task_in : List ℕ → Option Line → Option Span
 task_in text None = None
@@ -194,7 +212,7 @@ death_with text telling second processor = record {
   telling = telling;
   second = second;
   message = message_of text telling;
-  cpu = cpu_in text processor;
+  cpu = cpu_of text telling processor;
   task = task_of text telling;
   kernel = kernel_of text telling;
   function = option_map (λ f. f.span) (function_in text telling);

@@ -67,6 +67,8 @@ pub enum Mark {
     Cut,
     /// The message of a check that found the kernel's data damaged; the head of its report stands below it.
     Message,
+    /// Of a lockup: what stands before the processor's number.
+    Locked,
 }
 
 /// What a panic is about: a report above it, by its kind and by which of that kind.
@@ -192,7 +194,7 @@ pub struct Death {
     /// The line above a warning or a `kernel BUG at` that says what was wrong, such as
     /// `refcount_t: underflow; use-after-free.`.
     pub message: Option<Line>,
-    /// The processor's number, such as `0`.
+    /// The processor's number, such as `0`: of a lockup the one that the telling line names.
     pub cpu: Option<Span>,
     /// The task, such as `PID: 1 Comm: init`.
     pub task: Option<Span>,

@@ -3,7 +3,7 @@ ghost use Rattle.std.specs.Prelude.{◌≡◌, ◌+◌, ◌^◌, ◌≤◌, ◌�
 ghost use Rattle.zone_spec.specs.Parts.{standing_words};
 ghost use Rattle.rs_encode.specs.Lanes.{IsLent};
 ghost use Rattle.store_steps.specs.Flying.{Flying, flying};
-ghost use Rattle.store_steps.specs.Machine.{IsKept, IsParity};
+ghost use Rattle.store_steps.specs.Machine.{IsKept, IsParity, IsSameData};
 ghost use Rattle.store_steps.specs.declared.place.Phase.TheVariants.{Finished};
 ghost use Rattle.oopsbox_c.specs.Gathered.{IsGathered, HasGone};
 ghost use Rattle.oopsbox_c.specs.Ends.{status_of};
@@ -204,8 +204,10 @@ fn take_parities(
     requires empty { stores.old.count ≡ 0 }
     requires near { until < steps.old.made + 2 ^ 32 }
     requires most { steps.old.made ≤ until }
-    ensures gathered { (f : Flying) → IsGathered f image.now line.now payload.now steps.old stores.old
-        → IsGathered f image.now line.now payload.now steps.new stores.new }
+    ensures gathered { (f : Flying) (now : List ℕ) → IsSameData steps.old.zone now image.now
+        → IsGathered f now line.now payload.now steps.old stores.old
+        → IsGathered f now line.now payload.now steps.new stores.new }
+    ensures idle { (IsParity steps.old.place.phase → ⊥) → (steps.new ≡ steps.old) × (stores.new ≡ stores.old) }
     ensures kept { IsKept (flying steps.new line.now payload.now) }
     ensures room { stores.new.count ≤ 4 }
     ensures most { steps.new.made ≤ until }
@@ -361,7 +363,9 @@ pub extern "C" fn oopsbox_flight_next(
 fn first_stores(flight: &mut Flight, image: &[u8], payload: &[u8], stores: &mut Stores)
     requires flight { IsFlight flight.old [] payload.now }
     requires len { length image.now ≡ flight.old.zone.size }
-    ensures { IsNext flight.old flight.new image.now [] payload.now 4294967295 stores.new }
+    ensures next { IsNext flight.old flight.new image.now [] payload.now 4294967295 stores.new }
+    ensures whole { call_in flight.old.kind ≡ Append → flight.old.zone.parity ≡ 0 → flight.old.made ≡ 0
+        → stores.new.is_last ≡ 1 }
 {
     let mut steps = steps_of(flight);
     match steps.take_whole(&[], payload, u64::from(u32::MAX)) {

@@ -5,7 +5,7 @@ ghost use Rattle.zone_spec.specs.Parts.{Block, part_word};
 ghost use Rattle.zone_spec.specs.PartReadings.{part_reading};
 ghost use Rattle.prz_ecc.specs.Outcomes.{CountsAre, IsPartExcess};
 ghost use Rattle.zone_spec.specs.Zones.{IsValidZone};
-ghost use Rattle.zone_spec.specs.Reading.{zone_reading, state_of as state_for, log_read, IsRing};
+ghost use Rattle.zone_spec.specs.Reading.{zone_reading, log_read, IsRing};
 ghost use Rattle.zone_spec.specs.Boot.{keeps as keeps_zone, is_kept as is_kept_zone};
 ghost use Rattle.zone_spec.specs.PartStates.{part_states};
 ghost use Rattle.prz_read.specs.Reads.{bytes_read, corrected_of, bad_of, corrected_below, bad_below, states_below};
@@ -19,6 +19,7 @@ use prz_ecc::{Coder, Decoded, Fix};
 use prz_region::Span;
 use std::alloc::{AllocError, Global};
 use std::marker::Model;
+use zone_boot::{is_open, state_of};
 use zone_spec::{Kind, PartState, State, Words, Zone};
 
 /// What a boot reads of a zone: its state, the words of its header, its log, and how many bytes of header and blocks
@@ -73,20 +74,6 @@ fn counts_of(outcome: Decoded) -> Counts
             corrected: 0,
             bad: 1,
         },
-    }
-}
-
-fn state_of(zone: &Zone, words: Words) -> State
-    ensures { result ≡ state_for zone.now words }
-{
-    if words.sig != zone.sig {
-        State::Unsigned
-    } else if words.size == 0 && words.start == 0 {
-        State::Empty
-    } else if words.size > zone.cap || words.start > words.size {
-        State::Invalid
-    } else {
-        State::Found
     }
 }
 
@@ -460,12 +447,9 @@ pub fn keeps(zone: &Zone, reading: &Reading) -> bool
 fn is_kept(zone: &Zone, reading: &Reading) -> bool
     ensures { result ≡ is_kept_zone zone.now reading.now zone.now.name.kind }
 {
-    let words = reading.words;
     match zone.name.kind {
         Kind::Dump => read_line(reading.log.as_slice()).is_some(),
         Kind::Console | Kind::Pmsg => false,
-        Kind::Ftrace => {
-            (words.start == words.size || words.size == zone.cap) && words.start != zone.cap
-        }
+        Kind::Ftrace => is_open(reading.words, zone.cap),
     }
 }

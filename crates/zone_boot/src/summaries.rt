@@ -53,7 +53,7 @@ fn counts_of(outcome: Decoded) -> Counts
 }
 
 /// The state that a header's words make.
-pub(crate) fn state_of(zone: &Zone, words: Words) -> State
+pub fn state_of(zone: &Zone, words: Words) -> State
     ensures { result ≡ state_for zone.now words }
 {
     if words.sig != zone.sig {

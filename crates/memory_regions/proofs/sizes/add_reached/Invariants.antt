@@ -6,4 +6,4 @@ use Rattle.memory_regions.proofs.sizes.add_reached.Given as goal
 
 abbrev pub invariant-loop-n : goal.invariant-loop-n
 invariant-loop-n l = l.list.items ≡ l.initial.list.items
-    ++ filter (λ n. nat_le n l.len && is_reached l.pages n) (take l.n-index l.powers)
+    ++ filter (λ n. nat_le n l.len && is_reached l.pages l.ends n) (take l.n-index l.powers)

@@ -1,16 +1,15 @@
 -- Parities and then words and runs, from no stores on
-use Rattle.std.proofs.Common.{◌≡◌, ℕ, ◌<◌, List, sym, ap, ◌∙◌, subst, inl, inr, arith}
+use Rattle.std.proofs.Common.{◌≡◌, ℕ, ◌<◌, List, refl, sym, ap, ◌∙◌, subst, inl, inr, arith}
 use Rattle.store_steps.specs.declared.steps.Steps.{Steps}
 use Rattle.store_steps.specs.declared.place.Phase.TheVariants.{Finished}
 use Rattle.store_steps.specs.Flying.{flying}
-use Rattle.store_steps.specs.Machine.{IsKept, IsParity}
+use Rattle.store_steps.specs.Machine.{IsKept, IsParity, IsAlike}
 use Rattle.store_steps.specs.Counts.{total_of}
 use Rattle.store_steps.proofs.FlightSteps.{ends}
 use Rattle.oopsbox_c.specs.Gathered.{IsGathered}
 use Rattle.oopsbox_c.specs.Flights.{steps_of}
 use Rattle.oopsbox_c.specs.declared.stores.Stores.{Stores}
-use Rattle.oopsbox_c.proofs.NextStores.{nothing_yet}
-use Rattle.oopsbox_c.proofs.FlightAnswer.{answered, no_less, none_taken, parity_or_not}
+use Rattle.oopsbox_c.proofs.FlightAnswer.{gathered, answered, no_less, none_taken, parity_or_not}
 use Rattle.oopsbox_c.proofs.flights.go_on.Goals as goal
 
 pub take_parities-requires-clause-kept : goal.take_parities-requires-clause-kept
@@ -26,10 +25,11 @@ flight_of-requires c =
     let e : s ≡ steps_of c.args.flight.now = c.steps_of-steps.ensures in
     let kept : IsKept (flying s line payload) = subst (λ x. IsKept (flying x line payload)) (sym e)
     c.requires.flight.kept in
-    let begun = nothing_yet image line payload s c.clear.new.self kept (c.clear.ensures.stores line payload)
-    (c.clear.ensures.inside s.zone.size line payload) (λ i. omega (arith, c.type_inv.image i)) in
-    let got = c.take_data.ensures.gathered (flying s line payload) image
-    (c.take_parities.ensures.gathered (flying s line payload) begun) in
+    let got = gathered s c.take_parities.new.steps c.take_data.new.steps c.clear.new.self c.take_parities.new.stores
+    c.take_data.new.stores image line payload kept (c.clear.ensures.stores line payload)
+    (c.clear.ensures.inside s.zone.size line payload) (λ i. omega (arith, c.type_inv.image i))
+    c.take_parities.ensures.gathered c.take_parities.ensures.idle c.take_data.ensures.gathered image
+    (record { bytes = λ h. h; parity = λ _. refl }) in
     got.same.zone ∙ ap (λ (x : Steps). x.zone) e
 
 pub returns : goal.returns
@@ -43,10 +43,10 @@ returns c =
     let e : s ≡ steps_of c.args.flight.now = c.steps_of-steps.ensures in
     let kept : IsKept (flying s line payload) = subst (λ x. IsKept (flying x line payload)) (sym e)
     c.requires.flight.kept in
-    let begun = nothing_yet image line payload s c.clear.new.self kept (c.clear.ensures.stores line payload)
-    (c.clear.ensures.inside s.zone.size line payload) (λ i. omega (arith, c.type_inv.image i)) in
-    let got = c.take_data.ensures.gathered (flying s line payload) image
-    (c.take_parities.ensures.gathered (flying s line payload) begun) in
+    let got = gathered s p t c.clear.new.self c.take_parities.new.stores c.take_data.new.stores image line payload kept
+    (c.clear.ensures.stores line payload) (c.clear.ensures.inside s.zone.size line payload)
+    (λ i. omega (arith, c.type_inv.image i)) c.take_parities.ensures.gathered c.take_parities.ensures.idle
+    c.take_data.ensures.gathered in
     let first = c.take_parities.ensures.later in
     let second = c.take_data.ensures.later in
     let made : s.made ≡ c.args.flight.now.made = ap (λ (x : Steps). x.made) e in
@@ -81,7 +81,8 @@ returns c =
     let of = c.flight_of.ensures in
     answered c.args.flight.now c.flight_of.result image line payload c.args.most c.flag-stores.result t
     c.take_data.new.stores c.requires.flight
-    (subst (λ x. IsGathered (flying x line payload) image line payload t c.take_data.new.stores) e got)
+    (subst (λ (x : Steps). (now : List ℕ) → IsAlike (flying x line payload) image now
+    → IsGathered (flying x line payload) now line payload t c.take_data.new.stores) e got)
     (record {
       steps = of.steps;
       zone = of.zone;

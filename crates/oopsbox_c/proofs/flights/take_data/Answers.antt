@@ -28,7 +28,7 @@ loop-steps-preserved c =
           grown f image line payload s c.next_data.new.self c.loop-steps.stores c.push.new.self more g next.kept
           next.same next.made (c.push.ensures.stores line payload)
           (c.push.ensures.inside f.zone.size line payload g.inside
-          (subst (λ z. IsInside z c.next_data.new.out line payload) (ap (λ z. z.size) g.same.zone) next.inside))
+          (subst (λ z. IsInside z c.next_data.new.out line payload) (ap (λ z. z.size) g.same.zone) next.inside) some)
           (next.bytes now g.bytes) (next.handed now)
           (λ before stands. next.stands now before g.bytes stands);
       most = grind (arith, common_steps, next.made, next.most);
