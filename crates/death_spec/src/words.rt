@@ -18,6 +18,7 @@ pub const WORDS: &[(Mark, &[u8])] = &[
     (Mark::Fault, b"Kernel bug detected"),
     (Mark::Fault, b"Break instruction in kernel code"),
     (Mark::Fault, b"Reserved instruction in kernel code"),
+    (Mark::Fault, b"Trap instruction in kernel code"),
     (Mark::Fault, b"Unexpected kernel BRK exception"),
     (Mark::Fault, b"Bad mode in "),
     (Mark::Fault, b"illegal operation: "),

@@ -95,6 +95,11 @@ fn words_of_faults(rt: HostRuntime) {
             b"Reserved instruction in kernel code[#1]:",
             b"name+0x10/0x20",
         ),
+        (
+            b"Trap instruction in kernel code[#1]:\nepc   : 803aa75c name+0x10/0x20\n",
+            b"Trap instruction in kernel code[#1]:",
+            b"name+0x10/0x20",
+        ),
         // arch/s390
         (
             b"specification exception: 0006 ilc:2 [#1]SMP\nKrnl PSW : 0704d00180000000 000000000010b8f2 (name+0x12/0x20)\n",

@@ -13,7 +13,7 @@ ghost use Rattle.zone_spec.specs.Parts.{Header as HeaderPart, Block};
 ghost use Rattle.zone_spec.specs.PartReadings.{part_reading, words_read};
 ghost use Rattle.zone_boot.specs.Handed.{handed, handed_len, IsPlain};
 
-use crate::deciding::{Erasure, block_count, erasure_of, keeps};
+use crate::deciding::{Erasure, block_count, erasure_of, keeps_in};
 use crate::handing::BootStore;
 use crate::summaries::state_of;
 use arrayvec::ArrayVec;
@@ -75,7 +75,12 @@ impl Boot {
         let header = read_header(table, image, zone, &mut fixes);
         let words = header.words;
         let state = state_of(zone, words);
-        Boot::of_reading(zone, words, state, keeps(table, image, zone, words, state))
+        Boot::of_reading(
+            zone,
+            words,
+            state,
+            keeps_in(table, image, zone, words, state),
+        )
     }
 
     /// A boot before its first store, of a zone whose header reads as these words.
