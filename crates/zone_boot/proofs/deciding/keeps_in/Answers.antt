@@ -15,7 +15,7 @@ returns c =
     c.keeps.ensures (zone_reading z x) (reading_words z x ∙ sym c.requires.words)
     (reading_state z x ∙ ap (state_of z) (sym c.requires.words) ∙ sym c.requires.state)
     (λ dump found. elim c.match-state.branch [
-      in-Found-Dump w ↦ w.is_timed-is ∙ w.begins_with_line-is_timed.ensures
-    | in_default w ↦ absurd (w.in_default.not-Dump-1 dump)
-    | in_default-2 w ↦ absurd (w.in_default.not-Found-0 found)
+      | in-Found-Dump w ↦ w.is_timed-is ∙ w.begins_with_line-is_timed.ensures
+      | in_default w ↦ absurd (w.in_default.not-Dump-1 dump)
+      | in_default-2 w ↦ absurd (w.in_default.not-Found-0 found)
     ])
