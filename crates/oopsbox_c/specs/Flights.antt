@@ -1,5 +1,5 @@
 -- What the calls on a flight answer
-use Rattle.std.specs.Prelude.{◌≡◌, ℕ, ◌+◌, ◌<◌, ◌≤◌, ◌↔◌, ◌⊎◌, List, [], length, take, drop}
+use Rattle.std.specs.Prelude.{◌≡◌, ℕ, ◌+◌, ◌<◌, ◌≤◌, ◌↔◌, ◌⊎◌, List, [], ◌++◌, length, take, drop}
 use Rattle.zone_spec.specs.declared.CallKind.{CallKind}
 use Rattle.zone_spec.specs.declared.CallKind.TheVariants.{Append}
 use Rattle.zone_spec.specs.declared.Zone.{Zone}
@@ -11,7 +11,7 @@ use Rattle.zone_spec.specs.Calls.{call_stores}
 use Rattle.store_steps.specs.declared.steps.Steps.{Steps}
 use Rattle.store_steps.specs.Calls.{call_of, IsOpenFor}
 use Rattle.store_steps.specs.Flying.{Flying, flying, IsSameCall}
-use Rattle.store_steps.specs.Machine.{IsKept, IsParity, IsAlike, StandsFor}
+use Rattle.store_steps.specs.Machine.{IsKept, IsParity, IsAlike, StandsFor, stores_left}
 use Rattle.store_steps.specs.Counts.{total_of}
 use Rattle.oopsbox_c.specs.Numbers.{call_in, leg_in, phase_in}
 use Rattle.oopsbox_c.specs.Places.{zone_in, IsPlace}
@@ -121,10 +121,15 @@ pub record IsNext (f g : Flight) (image line payload : List ℕ) (most : ℕ) (o
   pub stops : (most ≤ length (stores_in out line payload)) ⊎ (out.count ≡ 4) ⊎ IsParity (phase_in g.phase)
       ⊎ (out.is_last ≡ 1)
 
+-- and whatever the zone's bytes are: the stores are the next of those that the flight leaves on them
+abbrev pub ComesNext : Flight → Flight → List ℕ → List ℕ → List ℕ → Stores → Type 0
+ComesNext f g image line payload out = stores_left (flight_in f line payload) image ≡ stores_in out line payload
+    ++ stores_left (flight_in g line payload) (after_stores image (stores_in out line payload))
+
 abbrev pub NextEnds : End → Flight → Flight → List ℕ → List ℕ → List ℕ → List TableRow → ℕ → Stores → Stores
     → Type 0
 NextEnds Done f g image line payload table most old new = CanGoOn f image line payload table most
-    × IsNext f g image line payload most new
+    × IsNext f g image line payload most new × ComesNext f g image line payload new
 NextEnds Argument f g image line payload table most old new = (¬ (CanGoOn f image line payload table most))
     × (g ≡ f) × (new ≡ old)
 NextEnds other f g image line payload table most old new = ⊥

@@ -316,7 +316,7 @@ fn a_boot_ends_in_a_zone_that_changes(rt: HostRuntime) -> Result<(), Fail> {
         assert!(rt; oopsbox_boot_next(&mut boot, &[byte; 4096], &mut stores) == 0);
         assert!(rt; (stores.count == 0) == (stores.is_last == 1));
     }
-    assert!(rt; (stores.is_last, boot.made) == (1, 2));
+    assert!(rt; (stores.is_last, boot.made, boot.phase) == (1, 2, 6));
     Ok(())
 }
 

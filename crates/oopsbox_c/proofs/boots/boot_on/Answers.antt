@@ -67,6 +67,8 @@ returns c =
         λ w. c.set_boot.ensures.last.1 (c.next.ensures.plain.1 (sym g ∙ w)),
       );
       none = c.set_boot.ensures.none;
-      ends = λ w. ap (λ (x : Boot). left_of x image) (sym e)
+      none_left = λ w. ap (λ (x : Boot). left_of x image) (sym e)
           ∙ c.next.ensures.last (c.next.ensures.plain.0 (c.set_boot.ensures.last.0 w));
+      ends = λ w. ap (λ (x : Boot). x.phase) of.boot
+          ∙ c.next.ensures.ends (c.next.ensures.plain.0 (c.set_boot.ensures.last.0 w));
     }

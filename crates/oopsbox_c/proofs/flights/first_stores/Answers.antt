@@ -44,4 +44,4 @@ returns-in-None-clause-whole c = λ kind parity fresh.
     (λ call. c.in-None.ensures.due
     (subst (λ (x : Steps). IsWholeCall x [] p c.from.result) (sym c.steps_of-steps.ensures)
     (subst (λ (n : ℕ). IsWholeCall (steps_of c.args.flight.now) [] p n) (sym c.from.ensures) call)))
-    kind parity fresh c.go_on.ensures
+    kind parity fresh c.go_on.ensures.next

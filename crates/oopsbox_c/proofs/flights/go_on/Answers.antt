@@ -1,15 +1,18 @@
 -- Parities and then words and runs, from no stores on
 use Rattle.std.proofs.Common.{◌≡◌, ℕ, ◌<◌, List, refl, sym, ap, ◌∙◌, subst, inl, inr, arith}
+use Rattle.zone_spec.specs.Stores.{Store as DefinedStore}
 use Rattle.store_steps.specs.declared.steps.Steps.{Steps}
 use Rattle.store_steps.specs.declared.place.Phase.TheVariants.{Finished}
 use Rattle.store_steps.specs.Flying.{flying}
-use Rattle.store_steps.specs.Machine.{IsKept, IsParity, IsAlike}
+use Rattle.store_steps.specs.Machine.{IsKept, IsParity, IsAlike, stores_left}
 use Rattle.store_steps.specs.Counts.{total_of}
 use Rattle.store_steps.proofs.FlightSteps.{ends}
 use Rattle.oopsbox_c.specs.Gathered.{IsGathered}
+use Rattle.oopsbox_c.specs.Stores.{stores_in}
 use Rattle.oopsbox_c.specs.Flights.{steps_of}
 use Rattle.oopsbox_c.specs.declared.stores.Stores.{Stores}
 use Rattle.oopsbox_c.proofs.FlightAnswer.{gathered, answered, no_less, none_taken, parity_or_not}
+use Rattle.oopsbox_c.proofs.LeftStores.{coming_yet, same_steps}
 use Rattle.oopsbox_c.proofs.flights.go_on.Goals as goal
 
 pub take_parities-requires-clause-kept : goal.take_parities-requires-clause-kept
@@ -32,8 +35,8 @@ flight_of-requires c =
     (record { bytes = λ h. h; parity = λ _. refl }) in
     got.same.zone ∙ ap (λ (x : Steps). x.zone) e
 
-pub returns : goal.returns
-returns c =
+pub returns-clause-next : goal.returns-clause-next
+returns-clause-next c =
     let image : List ℕ = c.args.image.now in
     let line : List ℕ = c.args.line.now in
     let payload : List ℕ = c.args.payload.now in
@@ -100,3 +103,17 @@ returns c =
     (λ h. let l = some (omega (arith, h, made, all)) in omega (arith, l, made))
     (λ h. none (omega (arith, h, made)))
     (elim c.take_data.ensures.stops [ inl m ↦ inl (omega (arith, m, made)) | inr r ↦ inr r ])
+
+pub returns-clause-coming : goal.returns-clause-coming
+returns-clause-coming c =
+    let image : List ℕ = c.args.image.now in
+    let line : List ℕ = c.args.line.now in
+    let payload : List ℕ = c.args.payload.now in
+    let s : Steps = c.steps_of-steps.result in
+    let all : List DefinedStore = stores_left (flying s line payload) image in
+    let out : List DefinedStore = stores_in c.take_data.new.stores line payload in
+    let got = c.take_data.ensures.coming all image (c.take_parities.ensures.coming all
+    (coming_yet image line payload s c.clear.new.self (c.clear.ensures.stores line payload)
+    (λ i. omega (arith, c.type_inv.image i)))) in
+    same_steps (steps_of c.args.flight.now) s c.take_data.new.steps (steps_of c.flight_of.result) image line payload out
+    c.steps_of-steps.ensures c.flight_of.ensures.steps got.whole

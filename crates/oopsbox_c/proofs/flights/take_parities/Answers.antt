@@ -3,6 +3,7 @@ use Rattle.std.proofs.Common.{◌+◌, ◌<◌, ℕ, List, length, take, refl, s
 use Rattle.std.proofs.lemmas.Grind.{common_steps}
 use Rattle.zone_spec.specs.Stores.{Store as DefinedStore, after_stores}
 use Rattle.store_steps.specs.declared.steps.Steps.{Steps}
+use Rattle.store_steps.specs.Flying.{flying}
 use Rattle.store_steps.specs.Handed.{handed, IsInside}
 use Rattle.std.specs.List.{flat_map}
 use Rattle.oopsbox_c.specs.Stores.{row_stores, stores_in}
@@ -10,6 +11,7 @@ use Rattle.oopsbox_c.specs.declared.stores.StoreRow.{StoreRow}
 use Rattle.ring_laws.proofs.Images.{after_stores-append}
 use Rattle.store_steps.specs.Machine.{IsParity, IsSameData}
 use Rattle.oopsbox_c.proofs.NextStores.{grown}
+use Rattle.oopsbox_c.proofs.LeftStores.{coming_more, next_there}
 use Rattle.oopsbox_c.proofs.flights.take_parities.Goals as goal
 
 pub loop-steps-init : goal.loop-steps-init
@@ -17,6 +19,7 @@ unfolding after_stores
 loop-steps-init c = record {
   kept = c.requires.kept;
   gathered = λ f now same begun. begun;
+  coming = λ all begun. begun;
   idle = λ not. (refl, refl);
   zone = refl;
   apart = λ now. ap (λ n. take (12 + c.args.steps.now.zone.cap) (after_stores now
@@ -53,6 +56,12 @@ loop-steps-preserved c =
           (next.bytes (after_stores now xs) g.bytes)
           (λ before stands. next.handed (after_stores now xs) before here stands)
           (λ before stands. next.stands (after_stores now xs) before g.bytes here stands);
+      coming = λ all begun.
+          let g = was.coming all begun in
+          coming_more all image line payload s c.next_parity.new.self c.loop-steps.stores c.push.new.self more g
+          (c.push.ensures.stores line payload) (next.bytes (after_stores image xs) g.bytes)
+          (next_there (flying s line payload) (flying c.next_parity.new.self line payload) image xs more
+          (omega (arith, was.kept.sound.valid.room)) next.same.zone (was.apart image) next.coming);
       idle = λ not. absurd (not (subst (λ (x : Steps). IsParity x.place.phase) (was.idle not).0
           (c.is_parity.ensures.0 c.if-is_parity.true)));
       zone = next.same.zone ∙ was.zone;
