@@ -21,15 +21,15 @@ AppendToTheEnd =
 abbrev pub RaisedCounters : Type 0
 RaisedCounters = (raised 4294967294 ≡ 4294967295) × (raised 4294967295 ≡ 4294967295)
 
-abbrev pub three_and_four : Counters
-three_and_four = record { panics = 3; oopses = 4 }
+abbrev pub counters : Counters
+counters = record { panics = 3; oopses = 4 }
 
 -- the other reasons have no counter
 abbrev pub CountedDumps : Type 0
 CountedDumps =
-    (counter_for Emergency three_and_four ≡ 0)
-    × (counter_for Oops three_and_four ≡ 5)
-    × (counted Oops three_and_four ≡ record { panics = 3; oopses = 5 })
+    (counter_for Emergency counters ≡ 0)
+    × (counter_for Oops counters ≡ 5)
+    × (counted Oops counters ≡ record { panics = 3; oopses = 5 })
 
 abbrev pub dump : ℕ → ℕ → BlkDump
 dump reason counter = record {

@@ -46,7 +46,7 @@ FirstCrash =
     (codes "boot\nkmsg 6f6e65\nkmsg 74776f\ncrash Panic 7 0\nstop\nboot\nlist\nextract dmesg-ramoops-0\n")
     ≡ (codes "boot dump-0 unsigned start 0 size 0 corrected 0 bad 0 nothing told\nboot dump-1 unsigned start 0 size 0 corrected 0 bad 0 nothing told\nboot console unsigned start 0 size 0 corrected 0 bad 0 nothing told\nboot pmsg unsigned start 0 size 0 corrected 0 bad 0 nothing told\nboot dump-0 found start 37 size 37 corrected 0 bad 0 as told\nboot dump-1 empty start 0 size 0 corrected 0 bad 0 as told\nboot console empty start 0 size 0 corrected 0 bad 0 as told\nboot pmsg empty start 0 size 0 corrected 0 bad 0 as told\nrecords 1\ndmesg-ramoops-0 22 7.000000\ndmesg-ramoops-0 22\nPanic#1 Part1\none\ntwo\n\n", 0)
 
--- the worked layouts; a parity of its own that is that of all says no more
+-- the worked layouts; `ecc_dump=16` beside `ecc=1` is the same parity, so no line names it
 abbrev pub WorkedLayouts : Type 0
 WorkedLayouts =
     (told (codes "image layout mem_size=16384 ftrace_size=0 ecc=1") [] []

@@ -3,7 +3,8 @@ use Rattle.std.specs.Prelude.{◌≡◌, true, false}
 use Rattle.layout_spec.specs.Family.{is_tag}
 use Rattle.layout_spec.specs.Order.{is_shown}
 
--- two bytes of parity: the headers that fit need four of them, and two more for each corrected byte
+-- a parity of two bytes is shown if the headers that fit have four bytes of it together, and two more for each
+-- corrected byte
 abbrev pub ShownRow : Type 0
 ShownRow =
     (is_shown 2 1 0 ≡ false) × (is_shown 2 2 0 ≡ true)

@@ -39,7 +39,7 @@ pub trait Watch {
     fn reached(&mut self, done: u64, all: u64);
 }
 
-/// Adds the numbers of a piece's marked pages, the first page of which is `first`. A header of 12 bytes is whole, or none.
+/// Adds the numbers of a piece's marked pages, the first page of which is `first`. A header that is cut is none.
 #[tactic(auto, unfolding(memory_spec::specs::Pages::marked))]
 pub(crate) fn add_marked(pages: &mut Vec<u64>, piece: &[u8], first: u64) -> Result<(), AllocError>
     requires { first < 2 ^ 53 }

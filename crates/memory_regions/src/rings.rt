@@ -1,13 +1,11 @@
 // What the headers in a memory tell of a region's size.
-ghost use Rattle.std.specs.Prelude.{◌≡◌, ◌+◌, ◌<◌, ◌≤◌, ◌^◌, ◌++◌, length, IfOk, OnOk};
+ghost use Rattle.std.specs.Prelude.{◌≡◌, ◌+◌, ◌<◌, ◌≤◌, ◌^◌, ◌++◌, length};
+ghost use Rattle.std.specs.List.{list_any};
 ghost use Rattle.memory_spec.specs.Rings.{word_at, header_end, ring_end, ends_in, ends_at, ends};
+ghost use Rattle.memory_spec.specs.Sizes.{ends_in_half};
 
-use layout_search::is_mark;
-use std::alloc::{AllocError, Global};
+use layout_search::{PLAIN_SIGNATURE, is_mark};
 use zone_spec::ByteOrder;
-
-// The signature of a zone without a tag.
-const SIGNATURE: u32 = 0x4347_4244;
 
 fn word_at(order: ByteOrder, bytes: &[u8], at: usize) -> u32
     requires { at + 4 ≤ length bytes.now }
@@ -16,90 +14,69 @@ fn word_at(order: ByteOrder, bytes: &[u8], at: usize) -> u32
     order.word(&bytes[at..at + 4])
 }
 
-// Adds the end of a header whose signature is whole.
-fn add_header_end(
-    list: &mut Vec<u64>,
-    order: ByteOrder,
-    bytes: &[u8],
-    at: usize,
-) -> Result<(), AllocError>
-    requires inside { at + 12 ≤ length bytes.now }
-    requires small { at < 2 ^ 63 }
-    ensures { OnOk result (list.new.items ≡ list.old.items ++ header_end order bytes.now at) }
+fn ends_in_half(size: u64, end: u64) -> bool
+    ensures { result ≡ ends_in_half size end }
 {
-    if word_at(order, bytes, at) == SIGNATURE {
-        list.push(at as u64 + 12)?;
-    }
-    Ok(())
+    size / 2 < end && end <= size
 }
 
-// Adds the end of its ring, if its start is not above its size.
-fn add_ring_end(
-    list: &mut Vec<u64>,
-    order: ByteOrder,
-    bytes: &[u8],
-    at: usize,
-) -> Result<(), AllocError>
+// Whether a header whose signature is whole ends in the second half.
+fn has_header_end(order: ByteOrder, bytes: &[u8], at: usize, size: u64) -> bool
     requires inside { at + 12 ≤ length bytes.now }
     requires small { at < 2 ^ 63 }
-    ensures { OnOk result (list.new.items ≡ list.old.items ++ ring_end order bytes.now at) }
+    ensures { result ≡ list_any (ends_in_half size) (header_end order bytes.now at) }
 {
-    let size = word_at(order, bytes, at + 8);
-    if word_at(order, bytes, at + 4) <= size {
-        list.push(at as u64 + 12 + u64::from(size))?;
-    }
-    Ok(())
+    word_at(order, bytes, at) == PLAIN_SIGNATURE && ends_in_half(size, at as u64 + 12)
 }
 
-fn add_ends_in(
-    list: &mut Vec<u64>,
-    order: ByteOrder,
-    bytes: &[u8],
-    at: usize,
-) -> Result<(), AllocError>
+// Whether its ring does, if its start is not above its size.
+fn has_ring_end(order: ByteOrder, bytes: &[u8], at: usize, size: u64) -> bool
     requires inside { at + 12 ≤ length bytes.now }
     requires small { at < 2 ^ 63 }
-    ensures { OnOk result (list.new.items ≡ list.old.items ++ ends_in order bytes.now at) }
+    ensures { result ≡ list_any (ends_in_half size) (ring_end order bytes.now at) }
 {
-    add_header_end(list, order, bytes, at)?;
-    add_ring_end(list, order, bytes, at)?;
-    Ok(())
+    let ring = word_at(order, bytes, at + 8);
+    word_at(order, bytes, at + 4) <= ring && ends_in_half(size, at as u64 + 12 + u64::from(ring))
+}
+
+fn has_end_in(order: ByteOrder, bytes: &[u8], at: usize, size: u64) -> bool
+    requires inside { at + 12 ≤ length bytes.now }
+    requires small { at < 2 ^ 63 }
+    ensures { result ≡ list_any (ends_in_half size) (ends_in order bytes.now at) }
+{
+    has_header_end(order, bytes, at, size) || has_ring_end(order, bytes, at, size)
 }
 
 // By the words in either order of bytes.
-fn add_either(list: &mut Vec<u64>, bytes: &[u8], at: usize) -> Result<(), AllocError>
+fn has_either_end(bytes: &[u8], at: usize, size: u64) -> bool
     requires inside { at + 12 ≤ length bytes.now }
     requires small { at < 2 ^ 63 }
-    ensures { OnOk result (list.new.items
-        ≡ list.old.items ++ (ends_in ByteOrder.Little bytes.now at ++ ends_in ByteOrder.Big bytes.now at)) }
+    ensures { result
+        ≡ list_any (ends_in_half size) (ends_in ByteOrder.Little bytes.now at ++ ends_in ByteOrder.Big bytes.now at) }
 {
-    add_ends_in(list, ByteOrder::Little, bytes, at)?;
-    add_ends_in(list, ByteOrder::Big, bytes, at)?;
-    Ok(())
+    has_end_in(ByteOrder::Little, bytes, at, size) || has_end_in(ByteOrder::Big, bytes, at, size)
 }
 
 // If a header seems to stand here.
-fn add_ends(list: &mut Vec<u64>, bytes: &[u8], at: usize) -> Result<(), AllocError>
+fn has_end_at(bytes: &[u8], at: usize, size: u64) -> bool
     requires inside { at + 12 ≤ length bytes.now }
     requires small { at < 2 ^ 63 }
-    ensures { OnOk result (list.new.items ≡ list.old.items ++ ends_at bytes.now at) }
+    ensures { result ≡ list_any (ends_in_half size) (ends_at bytes.now at) }
 {
-    if is_mark(bytes, at) {
-        add_either(list, bytes, at)
-    } else {
-        Ok(())
-    }
+    is_mark(bytes, at) && has_either_end(bytes, at, size)
 }
 
-/// Where headers and their rings end, as their words tell it, of all headers that seem to stand at an even place. Each
-/// end takes eight bytes.
+/// Whether a header or its ring ends in the second half of so many bytes, as its words tell it, of all headers that seem
+/// to stand at an even place. What stands after so many bytes ends after them, so it is not looked at.
 #[tactic(auto, unfolding(memory_spec::specs::Rings::ends))]
-pub fn ends(alloc: Global, bytes: &[u8]) -> Result<Vec<u64>, AllocError>
-    ensures { IfOk result (λ list. list.items ≡ ends bytes.now) }
+pub fn has_end_in_half(bytes: &[u8], size: u64) -> bool
+    ensures { result ≡ list_any (ends_in_half size) (ends bytes.now) }
 {
-    let mut list = Vec::new(alloc);
-    for i in 0..bytes.len().saturating_sub(10) / 2 {
-        add_ends(&mut list, bytes, 2 * i)?;
+    let places = (bytes.len().saturating_sub(10) / 2).min((size / 2) as usize);
+    for i in 0..places {
+        if has_end_at(bytes, 2 * i, size) {
+            return true;
+        }
     }
-    Ok(list)
+    false
 }

@@ -1,10 +1,11 @@
 // The sizes of which a region is tried.
-ghost use Rattle.std.specs.Prelude.{◌≡◌, ◌++◌, ◌∷◌, [], nat_le, ◌&&◌, None, IfOk, OnOk};
+ghost use Rattle.std.specs.Prelude.{◌≡◌, ◌++◌, ◌∷◌, [], nat_le, ◌&&◌, None, IfOk, OnOk, length};
 ghost use Rattle.std.specs.List.{filter, list_any};
-ghost use Rattle.memory_spec.specs.Sizes.{is_in_half, ends_in_half, is_reached, sizes_of};
+ghost use Rattle.memory_spec.specs.Rings.{ends};
+ghost use Rattle.memory_spec.specs.Sizes.{is_in_half, is_reached, sizes_of};
 
 use crate::pages::add_marked;
-use crate::rings::ends;
+use crate::rings::has_end_in_half;
 use std::alloc::{AllocError, Global};
 
 const POWERS: [u64; 13] = [
@@ -24,54 +25,41 @@ fn has_page_in_half(pages: &[u64], size: u64) -> bool
     pages.iter().any(|page| is_in_half(size, *page))
 }
 
-fn ends_in_half(size: u64, end: u64) -> bool
-    ensures { result ≡ ends_in_half size end }
+// Whether a region of so many bytes reaches into its second half. The bytes are looked at only if no page tells it.
+fn is_reached(pages: &[u64], bytes: &[u8], size: u64) -> bool
+    ensures { result ≡ is_reached pages.now (ends bytes.now) size }
 {
-    size / 2 < end && end <= size
-}
-
-fn has_end_in_half(ends: &[u64], size: u64) -> bool
-    ensures { result ≡ list_any (ends_in_half size) ends.now }
-{
-    ends.iter().any(|end| ends_in_half(size, *end))
-}
-
-// Whether a region of so many bytes reaches into its second half.
-fn is_reached(pages: &[u64], ends: &[u64], size: u64) -> bool
-    ensures { result ≡ is_reached pages.now ends.now size }
-{
-    size == 4096 || has_page_in_half(pages, size) || has_end_in_half(ends, size)
+    size == 4096 || has_page_in_half(pages, size) || has_end_in_half(bytes, size)
 }
 
 // Adds the powers that are reached and of which there are so many bytes.
 fn add_reached(
     list: &mut Vec<u64>,
     powers: &[u64],
-    len: u64,
     pages: &[u64],
-    ends: &[u64],
+    bytes: &[u8],
 ) -> Result<(), AllocError>
     ensures { OnOk result (list.new.items ≡ list.old.items
-        ++ filter (λ n. nat_le n len && is_reached pages.now ends.now n) powers.now) }
+        ++ filter (λ n. nat_le n (length bytes.now) && is_reached pages.now (ends bytes.now) n) powers.now) }
 {
     for n in powers {
-        if *n <= len && is_reached(pages, ends, *n) {
+        if *n <= bytes.len() as u64 && is_reached(pages, bytes, *n) {
             list.push(*n)?;
         }
     }
     Ok(())
 }
 
-// The sizes that these bytes reach. They are passed over once.
+// The sizes that these bytes reach. For each size that no page tells its bytes are looked at: as each is twice the one
+// before, that is twice as many as there are, at most.
 #[tactic(auto, unfolding(memory_spec::specs::Sizes::powers))]
 fn reached(alloc: Global, bytes: &[u8]) -> Result<Vec<u64>, AllocError>
     ensures { IfOk result (λ list. list.items ≡ sizes_of None bytes.now) }
 {
     let mut pages = Vec::new(alloc);
     add_marked(&mut pages, bytes, 0)?;
-    let ends = ends(alloc, bytes)?;
     let mut list = Vec::new(alloc);
-    add_reached(&mut list, &POWERS, bytes.len() as u64, &pages, &ends)?;
+    add_reached(&mut list, &POWERS, &pages, bytes)?;
     Ok(list)
 }
 

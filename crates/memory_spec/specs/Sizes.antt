@@ -23,8 +23,8 @@ ends_in_half size end = nat_lt (size / 2) end && nat_le end size
 -- a region reaches into the second half: a header seems to stand at a page there, or a header or its ring ends there.
 -- Without that, half of the size shows as many zones
 abbrev pub is_reached : List ℕ → List ℕ → ℕ → Bool
-is_reached pages places size =
-    (size == 4096) || list_any (is_in_half size) pages || list_any (ends_in_half size) places
+is_reached pages found_ends size =
+    (size == 4096) || list_any (is_in_half size) pages || list_any (ends_in_half size) found_ends
 
 -- the sizes that are tried, rising: the one that is known, or those that are reached; none has more bytes than there are
 abbrev pub sizes_of : Option ℕ → List ℕ → List ℕ

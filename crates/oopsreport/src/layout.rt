@@ -270,7 +270,7 @@ fn no_layouts(words: &[String], path: Option<&str>, fault: LayoutsFault) -> NoPl
     }
 }
 
-// Why a device tree and words give no layout. The nodes are told where one of them must be named.
+// Why a device tree and words give no layout, or no address. If a node must be named, the nodes are told first.
 fn no_tree<R: Runtime>(
     rt: &R,
     alloc: Global,

@@ -245,8 +245,10 @@ saved_data z parts (Some reading) = zone_data z reading parts
 
 -- the value of the zone at a place
 abbrev pub IsZoneAt : List Zone → List (Option ZoneReading) → List PartStates → ℕ → Data → Type 0
-IsZoneAt zones readings parts i d = (z : Zone) (saved : Option ZoneReading) (p : PartStates) → slice_get zones i ≡ Some z
-    → slice_get readings i ≡ Some saved → slice_get parts i ≡ Some p → d ≡ saved_data z p saved
+IsZoneAt zones readings parts i d =
+    (z : Zone) (saved : Option ZoneReading) (p : PartStates)
+    → slice_get zones i ≡ Some z → slice_get readings i ≡ Some saved → slice_get parts i ≡ Some p
+    → d ≡ saved_data z p saved
 
 -- the values of the first n zones, in order
 pub record AreZones (zones : List Zone) (readings : List (Option ZoneReading)) (parts : List PartStates) (n : ℕ)

@@ -112,13 +112,13 @@ IsPath false asked path holds before now a b = IsFailed asked path holds before 
 abbrev pub is_counted : Asked → ℕ → Bool
 is_counted asked all = asked.counts && nat_lt 1 all
 
-pub record IsStep (asked : Asked) (i all : ℕ) (path : List ℕ) (holds : Option (List ℕ)) (r q : Reads)
+pub record IsStep (asked : Asked) (i all : ℕ) (path : List ℕ) (holds : Option (List ℕ)) (reads_before reads_now : Reads)
     (a b : State) (was now : Bool) : Type 0 where
-  pub later : r.unread ≤ q.unread
+  pub later : reads_before.unread ≤ reads_now.unread
   pub between : Seen
   pub counted : IsCounted (is_counted asked all) i all a.errors between
   pub done : Bool
-  pub is_path : IsPath done asked path holds r q (record a { errors = between }) b
+  pub is_path : IsPath done asked path holds reads_before reads_now (record a { errors = between }) b
   pub failed : now ≡ (was || not done)
 
 -- the status is 0 if all was done, and standard error took every line
@@ -128,9 +128,10 @@ status_of failed is_lost = if failed || is_lost then 1 else 0
 -- the files at these paths, from number i on, of so many
 unfoldable pub AreSteps : Asked → (List ℕ → Wanted → Option (List ℕ)) → ℕ → ℕ → List (String Global) → Reads → State
     → Bool → Reads → State → Bool → Type 0
-AreSteps asked content all i [] r a was q b now = (q ≡ r) × (b ≡ a) × (now ≡ was)
-AreSteps asked content all i (path ∷ paths) r a was q b now =
+AreSteps asked content all i [] reads_before a was reads_now b now =
+    (reads_now ≡ reads_before) × (b ≡ a) × (now ≡ was)
+AreSteps asked content all i (path ∷ paths) reads_before a was reads_now b now =
     (between : Reads) × (m : State) × (failed : Bool)
-    × IsStep asked i all (string_bytes path) (content (string_bytes path) (wanted asked.memory asked.layouts)) r between
-    a m was failed
-    × AreSteps asked content all (i + 1) paths between m failed q b now
+    × IsStep asked i all (string_bytes path) (content (string_bytes path) (wanted asked.memory asked.layouts))
+    reads_before between a m was failed
+    × AreSteps asked content all (i + 1) paths between m failed reads_now b now

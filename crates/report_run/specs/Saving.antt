@@ -1,5 +1,5 @@
 -- The files that are made of a report's records
-use Rattle.std.specs.Prelude.{◌≡◌, ◌⊎◌, ⊤, ℕ, Bool, true, false, Option}
+use Rattle.std.specs.Prelude.{◌≡◌, ◌⊎◌, ℕ, Bool, true, false, Option}
 use Rattle.outside.specs.Outside.{Rose}
 use Rattle.region_report.specs.Reports.{ReportHeld}
 use Rattle.report_tool.specs.Saved.{Files, Makes, MakesFirst, files_of}
@@ -10,11 +10,11 @@ use Rattle.report_run.specs.States.{Folder}
 -- why not all were made: one was not, or memory ran out
 abbrev pub IsKeptBack : ℕ → ℕ → Failure → Type 0
 IsKeptBack before now (Unsaved why) = Rose before now
-IsKeptBack before now Memory = ⊤
+IsKeptBack before now Memory = now ≡ before
 IsKeptBack before now other = ⊥
 
--- none was made, also if there is no record: the folder may fail; or those of the first records were, and at least one
--- was not
+-- no file was made, as where the folder itself fails, also of a report without records; or the first files were made,
+-- and not all
 abbrev pub MakesSome : ReportHeld → Option Files → Option Files → Type 0
 MakesSome report before now = (now ≡ before) ⊎ MakesFirst report.origin report.records before now
 

@@ -139,10 +139,10 @@ fn one_file<I: Images, W: Watch, O: Sink, E: Sink, F: Records>(
         (seen (E.given messages.new.errors) (E.faults messages.new.errors) messages.new.is_lost)
         (folder (F.made records.new) (F.faults records.new)) in
         let holds = I.content images.old path.now (wanted asked.now.memory asked.now.layouts) in
-        let r = reads (I.unopened images.old) (I.faults images.old) in
-        let q = reads (I.unopened images.new) (I.faults images.new) in
-        MatchResult result (λ _. IsDone asked.now path.now holds r q before after)
-        (IsUndone asked.now path.now holds r q before after) }
+        let reads_before = reads (I.unopened images.old) (I.faults images.old) in
+        let reads_now = reads (I.unopened images.new) (I.faults images.new) in
+        MatchResult result (λ _. IsDone asked.now path.now holds reads_before reads_now before after)
+        (IsUndone asked.now path.now holds reads_before reads_now before after) }
     ensures same { I.content images.new ≡ I.content images.old }
     ensures later { I.faults images.old ≤ I.faults images.new }
 {

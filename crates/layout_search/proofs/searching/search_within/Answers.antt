@@ -68,7 +68,8 @@ returns c =
       limit = state.limit;
       reached = state.reached;
     })) (sym c.candidate_of-rival.ensures)
-    (wholly known image best others.best (not other) state kept first c.in_ok-others.ensures.sound c.in_ok-others.ensures.few
+    (wholly known image best others.best (not other) state kept first c.in_ok-others.ensures.sound
+    c.in_ok-others.ensures.few
     (λ e d family differs few. absurd (c.in_ok-other-2.ensures.only (of_not other e) d family differs))
     (λ e. c.in_ok-others.ensures.given_up ended)
     (not_only other (IsOnly known image best.candidate) c.in_ok-other-2.ensures.other)))
