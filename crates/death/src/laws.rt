@@ -55,14 +55,27 @@ pub fn a_lockup_names_its_processor()
         ≡ Some (Some (record { start = 53; end = 55 })) }
 {}
 
-/// A task that hangs is told with how long it does. What it waits for tells nothing, and is no later task that hangs.
+/// What another processor writes below a lockup, or another task below one that hangs, is not taken for theirs.
+pub fn reports_of_others_are_left_out()
+    ensures processor { option_map (λ d. d.task)
+        (death_of (codes "Watchdog detected hard LOCKUP on cpu 1" ++ 10 ∷ codes "CPU: 0 PID: 9")) ≡ Some None }
+    ensures task { option_map (λ d. d.function)
+        (death_of (codes "INFO: task a:1 blocked for more than 5" ++ 10
+        ∷ codes "INFO: task a:1 is blocked on a mutex" ++ 10 ∷ codes " b+0x1")) ≡ Some None }
+{}
+
+/// `INFO: task .. is blocked on a mutex` tells nothing, and is not taken for a later task that hangs.
 pub fn a_blocker_is_no_second_task()
     ensures alone { death_of (codes "INFO: task a:1 is blocked on a mutex") ≡ None }
     ensures telling { option_map (λ d. d.telling.start)
         (death_of (codes "INFO: task a:1 blocked for more than 5" ++ 10
         ∷ codes "INFO: task a:1 is blocked on a mutex" ++ 10
         ∷ codes "Kernel panic - not syncing: hung_task: blocked tasks")) ≡ Some 0 }
-    ensures task { option_map (λ d. d.task) (death_of (codes "INFO: task a:1 blocked in I/O wait for more than 5"))
+{}
+
+/// A task that waits for a device is named too.
+pub fn a_task_in_io_wait_is_named()
+    ensures { option_map (λ d. d.task) (death_of (codes "INFO: task a:1 blocked in I/O wait for more than 5"))
         ≡ Some (Some (record { start = 11; end = 14 })) }
 {}
 

@@ -33,7 +33,7 @@ pub enum Mark {
     Oops,
     /// A warning, or want of memory.
     Warning,
-    /// A warning: a task waits for very long.
+    /// A warning: a task waits for very long (`OnTask`).
     HungTask,
     /// A warning: a processor never lets the kernel's RCU go on.
     Stall,
@@ -47,7 +47,7 @@ pub enum Mark {
     Link,
     /// Of the line of the processor: what the kernel says of itself.
     Kernel,
-    /// Of a task that hangs: what follows its name.
+    /// Of a task that hangs: how long it has been blocked.
     Blocked,
     /// In a call trace: what follows a function's name.
     Offset,
@@ -69,6 +69,12 @@ pub enum Mark {
     Message,
     /// Of a lockup: what stands before the processor's number.
     Locked,
+    /// A line on a task. It is `HungTask` if `Blocked` stands in it.
+    OnTask,
+    /// A line that warns of something. It is `Warning` if `Warned` stands in it.
+    Caution,
+    /// Of a warning: what stands before the processor's number.
+    Warned,
 }
 
 /// What a panic is about: a report above it, by its kind and by which of that kind.

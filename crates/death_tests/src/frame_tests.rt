@@ -1,4 +1,5 @@
-// The functions by which a kernel dies and waits, each in a trace of its own. All names are from the kernel's sources.
+// The functions by which a kernel dies and waits, each in a trace of its own. The names of the first two lists are from
+// the kernel's sources.
 use death::*;
 use std::alloc::{AllocError, Global};
 use std::test::Fail;

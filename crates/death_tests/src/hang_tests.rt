@@ -65,8 +65,8 @@ fn processors_of_lockups(rt: HostRuntime) {
             b"7".as_slice(),
         ),
         (
-            b"NMI watchdog: CPU1: Watchdog detected hard LOCKUP on cpu 130",
-            b"NMI watchdog: CPU1: Watchdog detected hard LOCKUP on cpu 130",
+            b"watchdog: CPU1: Watchdog detected hard LOCKUP on cpu 130",
+            b"watchdog: CPU1: Watchdog detected hard LOCKUP on cpu 130",
             b"130",
         ),
         // 6.12, 6.1
@@ -84,12 +84,6 @@ fn processors_of_lockups(rt: HostRuntime) {
             b"Watchdog detected hard LOCKUP on cpu 3\n",
             b"Watchdog detected hard LOCKUP on cpu 3",
             b"3",
-        ),
-        // the stuck processor printed nothing
-        (
-            b"watchdog: CPU0: Watchdog detected hard LOCKUP on cpu 1\nCPU: 0 PID: 9 Comm: a Not tainted 7.2.13 #1\n",
-            b"watchdog: CPU0: Watchdog detected hard LOCKUP on cpu 1",
-            b"1",
         ),
         // soft lockups; the second log is cut
         (
@@ -124,11 +118,156 @@ fn processors_of_lockups(rt: HostRuntime) {
     }
 }
 
+// A lockup's report ends where another processor writes of itself. By hand.
+#[test]
+fn reports_of_other_processors(rt: HostRuntime) {
+    for (text, wanted) in [
+        // the stuck processor printed nothing
+        (
+            b"watchdog: CPU0: Watchdog detected hard LOCKUP on cpu 1\nCPU: 0 PID: 9 Comm: a Not tainted 7.2.13 #1\n\
+RIP: 0010:f+0x1/0x2\nCall Trace:\n g+0x1/0x2\n"
+                .as_slice(),
+            [
+                b"watchdog: CPU0: Watchdog detected hard LOCKUP on cpu 1".as_slice(),
+                b"-",
+                b"1",
+                b"-",
+                b"-",
+                b"-",
+            ],
+        ),
+        (
+            b"watchdog: Watchdog detected hard LOCKUP on cpu 1\nCPU: 0 PID: 9 Comm: a Not tainted 6.12.0 #1\nlr : f+0x1/0x2\n",
+            [
+                b"watchdog: Watchdog detected hard LOCKUP on cpu 1",
+                b"-",
+                b"1",
+                b"-",
+                b"-",
+                b"-",
+            ],
+        ),
+        (
+            b"watchdog: Watchdog detected hard LOCKUP on cpu 1\nCPU: 11 PID: 9 Comm: a Not tainted 6.12.0 #1\n\
+Call Trace:\n g+0x1/0x2\n",
+            [
+                b"watchdog: Watchdog detected hard LOCKUP on cpu 1",
+                b"-",
+                b"1",
+                b"-",
+                b"-",
+                b"-",
+            ],
+        ),
+        (
+            b"watchdog: BUG: soft lockup - CPU#12 stuck for 22s! [a:1]\nCPU: 1 PID: 9 Comm: a Not tainted 6.12.0 #1\n\
+RIP: 0010:f+0x1/0x2\n",
+            [
+                b"watchdog: BUG: soft lockup - CPU#12 stuck for 22s! [a:1]",
+                b"-",
+                b"12",
+                b"-",
+                b"-",
+                b"-",
+            ],
+        ),
+        // it printed, and then another did
+        (
+            b"watchdog: CPU0: Watchdog detected hard LOCKUP on cpu 1\nCPU: 1 PID: 8 Comm: b Not tainted 7.2.13 #1\n\
+CPU: 0 PID: 9 Comm: a Not tainted 7.2.13 #1\nRIP: 0010:f+0x1/0x2\nCall Trace:\n g+0x1/0x2\n",
+            [
+                b"watchdog: CPU0: Watchdog detected hard LOCKUP on cpu 1",
+                b"-",
+                b"1",
+                b"PID: 8 Comm: b",
+                b"Not tainted 7.2.13 #1",
+                b"-",
+            ],
+        ),
+        // the numbers agree
+        (
+            b"watchdog: CPU0: Watchdog detected hard LOCKUP on cpu 1\nCPU: 1 PID: 8 Comm: b Not tainted 7.2.13 #1\n\
+RIP: 0010:f+0x1/0x2\nCall Trace:\n g+0x1/0x2\nCPU: 0 PID: 9 Comm: a Not tainted 7.2.13 #1\nRIP: 0010:h+0x1/0x2\n",
+            [
+                b"watchdog: CPU0: Watchdog detected hard LOCKUP on cpu 1",
+                b"-",
+                b"1",
+                b"PID: 8 Comm: b",
+                b"Not tainted 7.2.13 #1",
+                b"f+0x1/0x2",
+            ],
+        ),
+        // the line names none: the report tells
+        (
+            b"watchdog: Watchdog detected hard LOCKUP on cpu ?\nCPU: 2 PID: 9 Comm: a Not tainted 7.2.13 #1\n\
+RIP: 0010:f+0x1/0x2\n",
+            [
+                b"watchdog: Watchdog detected hard LOCKUP on cpu ?",
+                b"-",
+                b"2",
+                b"PID: 9 Comm: a",
+                b"Not tainted 7.2.13 #1",
+                b"f+0x1/0x2",
+            ],
+        ),
+        // the report names none
+        (
+            b"watchdog: Watchdog detected hard LOCKUP on cpu 1\nCPU: PID: 9 Comm: a Not tainted 7.2.13 #1\n\
+RIP: 0010:f+0x1/0x2\n",
+            [
+                b"watchdog: Watchdog detected hard LOCKUP on cpu 1",
+                b"-",
+                b"1",
+                b"PID: 9 Comm: a",
+                b"Not tainted 7.2.13 #1",
+                b"f+0x1/0x2",
+            ],
+        ),
+        // no lockup
+        (
+            b"BUG: a on cpu 1\nCPU: 2 PID: 9 Comm: a Not tainted 7.2.13 #1\nRIP: 0010:f+0x1/0x2\n",
+            [
+                b"BUG: a on cpu 1",
+                b"-",
+                b"2",
+                b"PID: 9 Comm: a",
+                b"Not tainted 7.2.13 #1",
+                b"f+0x1/0x2",
+            ],
+        ),
+    ] {
+        assert_told(&rt, text, wanted);
+    }
+}
+
+#[test]
+fn traces_of_other_processors(rt: HostRuntime) -> Result<(), Fail> {
+    for (text, wanted) in [
+        (
+            b"watchdog: CPU0: Watchdog detected hard LOCKUP on cpu 1\nCPU: 0 PID: 9\nCall Trace:\n g+0x1/0x2\n".as_slice(),
+            b"".as_slice(),
+        ),
+        (
+            b"watchdog: CPU0: Watchdog detected hard LOCKUP on cpu 1\nCPU: 1 PID: 9\nCall Trace:\n g+0x1/0x2\n",
+            b"g\n",
+        ),
+        (
+            b"watchdog: CPU0: Watchdog detected hard LOCKUP\nCPU: 0 PID: 9\nCall Trace:\n g+0x1/0x2\n",
+            b"g\n",
+        ),
+    ] {
+        assert!(rt; are_names(rt.alloc(), text, wanted)?);
+    }
+    Ok(())
+}
+
 // A number before other words, or none before these.
 #[test]
 fn numbers_that_hide_no_lockup(rt: HostRuntime) {
     for text in [
         b"watchdog: CPU0: Disabling watchdog\n".as_slice(),
+        // PowerPC
+        b"watchdog: CPU 3 self-detected hard LOCKUP @ f+0x1/0x2\n",
         b"watchdog: CPU0 Watchdog: detected hard LOCKUP on cpu 1\n",
         b"watchdog: CPU0:Watchdog detected hard LOCKUP on cpu 1\n",
         b"watchdog: CPU",
@@ -201,6 +340,27 @@ INFO: task a:10 is blocked on a mutex likely owned by task b:11.\nCall Trace:\n 
     );
 }
 
+// By hand: the trace of the task is missing.
+#[test]
+fn a_blocker_has_a_trace_of_its_own(rt: HostRuntime) -> Result<(), Fail> {
+    const LOST: &[u8] = b"INFO: task a:10 blocked for more than 5 seconds.\n\
+INFO: task a:10 is blocked on a mutex likely owned by task b:11.\nCall Trace:\n g+0x1/0x2\n";
+    assert_told(
+        &rt,
+        LOST,
+        [
+            b"INFO: task a:10 blocked for more than 5 seconds.",
+            b"-",
+            b"-",
+            b"a:10",
+            b"-",
+            b"-",
+        ],
+    );
+    assert!(rt; are_names(rt.alloc(), LOST, b"")?);
+    Ok(())
+}
+
 #[test]
 fn a_task_that_waits_for_a_device(rt: HostRuntime) {
     assert_told(
@@ -217,7 +377,7 @@ fn a_task_that_waits_for_a_device(rt: HostRuntime) {
     );
 }
 
-// What a task waits for is no report: it tells nothing, and ends none.
+// What a task waits for is no report: it tells nothing, and ends no other report than that of a task that hangs.
 #[test]
 fn lines_on_blockers(rt: HostRuntime) {
     for text in [
@@ -255,7 +415,7 @@ Kernel panic - not syncing: kernel: panic_on_warn set ...\n",
     );
 }
 
-// Warnings of kernels that know neither file nor line.
+// Warnings without a file, or with one in no directory of the kernel's.
 #[test]
 fn a_warning_without_a_file(rt: HostRuntime) {
     assert!(rt;
@@ -269,6 +429,38 @@ fn a_warning_without_a_file(rt: HostRuntime) {
         &rt,
         b"WARNING: at f+0x30/0x3c [m], CPU#0: b/27\n",
         b"WARNING: at f+0x30/0x3c [m], CPU#0: b/27",
+    );
+    assert!(rt;
+        is_named(
+            b"WARNING: CPU#0: b/27\nRIP: 0010:f+0x30/0x3c\n",
+            b"WARNING: CPU#0: b/27",
+            b"f+0x30/0x3c"
+        )
+    );
+}
+
+// Where such a warning stands, a report ends, and one is open; another sentence that begins so leaves both.
+#[test]
+fn warnings_by_their_processor(rt: HostRuntime) {
+    assert_line(
+        &rt,
+        b"BUG: a\nWARNING: boom.c:12 at f+0x1/0x2 [m], CPU#0: b/27\nCPU: 0 PID: 9 Comm: d Not tainted 7.2.13 #1\n\
+RIP: 0010:f+0x1/0x2\n",
+        b"BUG: a",
+    );
+    assert!(rt;
+        is_named(
+            b"BUG: a\nWARNING: boom is slow\nRIP: 0010:f+0x1/0x2\n",
+            b"BUG: a",
+            b"f+0x1/0x2"
+        )
+    );
+    assert!(rt;
+        is_telling(
+            b"WARNING: boom.c:12 at f+0x1/0x2 [m], CPU#0: b/27\nWARNING: boom is slow\n\
+Kernel panic - not syncing: kernel: panic_on_warn set ...\n",
+            b"WARNING: boom.c:12 at f+0x1/0x2 [m], CPU#0: b/27"
+        )
     );
 }
 
@@ -284,6 +476,15 @@ fn lines_that_warn_of_no_death(rt: HostRuntime) {
         b"WARNING: Flushing system-wide workqueues will be prohibited in near future.\n",
         b"WARNING: attached\n",
         b"WARNING: at",
+        // of a driver
+        b"WARNING: boom: the device is gone\n",
+        b"WARNING: boom.c:12 at f+0x1/0x2 [m]\n",
+        b"WARNING: boom is slow on CPU#3: try another\n",
+        b"WARNING: boom is slow, CPU 3\n",
+        b"WARNING: boom, CPU",
+        b"WARNING: ",
+        b"boom: WARNING: boom.c:12 at f+0x1/0x2 [m], CPU#0: b/27\n",
+        b"boom, CPU#0: b/27\n",
     ] {
         assert!(rt; death(text).is_none());
     }

@@ -144,6 +144,11 @@ fn words_of_warnings(rt: HostRuntime) {
         b"WARNING: security/a.c:117 at name+0x30/0x3c, CPU#0: b/27",
         b"WARNING: sound/a.c:117 at name+0x30/0x3c, CPU#0: b/27",
         b"WARNING: virt/a.c:117 at name+0x30/0x3c, CPU#0: b/27",
+        // of a module that was built elsewhere, of one that knows its condition, of one that knows nothing
+        b"WARNING: boom.c:12 at name+0x30/0x3c [boom], CPU#0: b/27",
+        b"WARNING: [p == q] boom.c:12 at name+0x30/0x3c [boom], CPU#0: b/27",
+        b"WARNING: [p == q] drivers/a.c:117 at name+0x30/0x3c, CPU#0: b/27",
+        b"WARNING: CPU#0: b/27",
         // kernel/rcu, before 5.0
         b"INFO: rcu_sched self-detected stall on CPU",
     ] {
@@ -271,10 +276,6 @@ fn kinds_of_hangs(rt: HostRuntime) -> Result<(), Fail> {
             b"BUG: hard lockup in f",
         ),
         (
-            b"NMI watchdog: CPU0: Watchdog detected hard LOCKUP on cpu 3\nRIP: 0010:f+0x1/0x2\n",
-            b"BUG: hard lockup in f",
-        ),
-        (
             b"NMI watchdog: Watchdog detected hard LOCKUP on cpu 3\nRIP: 0010:f+0x1/0x2\n",
             b"BUG: hard lockup in f",
         ),
@@ -294,6 +295,19 @@ fn kinds_of_hangs(rt: HostRuntime) -> Result<(), Fail> {
         (
             b"WARNING: at f+0x30/0x3c, CPU#0: b/27\nRIP: 0010:g+0x30/0x3c\n",
             b"WARNING in f",
+        ),
+        (
+            b"WARNING: boom.c:12 at f+0x30/0x3c [boom], CPU#0: b/27\nRIP: 0010:g+0x30/0x3c\n",
+            b"WARNING in f",
+        ),
+        (
+            b"WARNING: [p == q] drivers/a.c:117 at f+0x30/0x3c, CPU#0: b/27\nRIP: 0010:g+0x30/0x3c\n",
+            b"WARNING in f",
+        ),
+        // it names none
+        (
+            b"WARNING: CPU#0: b/27\nRIP: 0010:g+0x30/0x3c\n",
+            b"WARNING in g",
         ),
     ] {
         assert!(rt; is_signed(rt.alloc(), text, wanted)?);
