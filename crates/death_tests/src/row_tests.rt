@@ -144,7 +144,7 @@ fn words_of_warnings(rt: HostRuntime) {
         b"WARNING: security/a.c:117 at name+0x30/0x3c, CPU#0: b/27",
         b"WARNING: sound/a.c:117 at name+0x30/0x3c, CPU#0: b/27",
         b"WARNING: virt/a.c:117 at name+0x30/0x3c, CPU#0: b/27",
-        // of a module that was built elsewhere, of one that knows its condition, of one that knows nothing
+        // of a module from outside the tree, with a condition, without file and function
         b"WARNING: boom.c:12 at name+0x30/0x3c [boom], CPU#0: b/27",
         b"WARNING: [p == q] boom.c:12 at name+0x30/0x3c [boom], CPU#0: b/27",
         b"WARNING: [p == q] drivers/a.c:117 at name+0x30/0x3c, CPU#0: b/27",
