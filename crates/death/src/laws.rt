@@ -55,7 +55,7 @@ pub fn a_lockup_names_its_processor()
         ≡ Some (Some (record { start = 53; end = 55 })) }
 {}
 
-/// What another processor writes below a lockup, or another task below one that hangs, is not taken for theirs.
+/// The report of a lockup has nothing that another processor wrote, and that of a task that hangs nothing of another.
 pub fn reports_of_others_are_left_out()
     ensures processor { option_map (λ d. d.task)
         (death_of (codes "Watchdog detected hard LOCKUP on cpu 1" ++ 10 ∷ codes "CPU: 0 PID: 9")) ≡ Some None }

@@ -96,7 +96,7 @@ fn cpu_of(text: &[u8], telling: Line, processor: Option<Line>) -> Option<Span>
     locked_of(text, telling).or(cpu_in(text, processor))
 }
 
-// Whether both are there, and are other bytes.
+// Whether both are there, and their bytes differ.
 fn differ(text: &[u8], a: Option<Span>, b: Option<Span>) -> bool
     ensures { result ≡ differ text.now a b }
 {

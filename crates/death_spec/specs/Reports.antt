@@ -55,14 +55,14 @@ cpu_of text telling processor = option_or (locked_of text telling) (cpu_in text 
 
 -- ---- the lines of the report
 
--- whether both are there, and are other bytes
+-- whether both are there, and their bytes differ
 abbrev pub differ : List ℕ → Option Span → Option Span → Bool
 differ text None b = false
 differ text (Some a) None = false
 differ text (Some a) (Some b) = not (bytes_eq (part text a.start a.end) (part text b.start b.end))
 
--- whether a line begins what is told of another: below a hung task the line on what that waits for, and below a lockup
--- the `CPU: ` of a processor that is not the one that is stuck
+-- whether a line begins what is told of another: below a hung task the line on its blocker, and below a lockup the
+-- `CPU: ` of a processor other than the stuck one
 abbrev pub is_of_other : List ℕ → Option Mark → Option Span → Option Mark → Line → Bool
 is_of_other text head locked kind line =
     (is_mark HungTask head && is_mark OnTask kind)

@@ -31,9 +31,9 @@ pub enum Mark {
     SystemError,
     /// The head of an oops.
     Oops,
-    /// A warning, or want of memory.
+    /// A warning, or out of memory.
     Warning,
-    /// A warning: a task waits for very long (`OnTask`).
+    /// A warning: a task waits for very long. Its line is an `OnTask` with `Blocked`.
     HungTask,
     /// A warning: a processor never lets the kernel's RCU go on.
     Stall,

@@ -1,5 +1,5 @@
--- Whether a header or a ring ends in the second half of a size: one place more, one place that settles it, and none past
--- the size. For `has_end_in_half`.
+-- Whether a header or a ring ends in the second half of a size: at one place more, and at none past the size.
+-- For `has_end_in_half`.
 use Rattle.std.proofs.Common.{◌≡◌, ◌∙◌, ℕ, zero, suc, ◌+◌, ◌<◌, ◌≤◌, Bool, true, false, cond, List, [], ◌∷◌}
 use Rattle.std.proofs.Common.{◌++◌, refl, ap, ap₂, arith, append-nil}
 use Rattle.std.specs.Prelude.{◌||◌, ◌==◌, nat_le}

@@ -2,4 +2,4 @@ mod ReadWithin
 pub mod PageMarks
 pub mod NextPiece
 mod FromFront
-pub mod EndsWithin
+mod EndsWithin

@@ -66,8 +66,8 @@ fn has_end_at(bytes: &[u8], at: usize, size: u64) -> bool
     is_mark(bytes, at) && has_either_end(bytes, at, size)
 }
 
-/// Whether a header or its ring ends in the second half of so many bytes, as its words tell it, of all headers that seem
-/// to stand at an even place. What stands after so many bytes ends after them, so it is not looked at.
+/// Whether a header or its ring ends in the second half of so many bytes, as its words tell it. All headers count that
+/// seem to stand at an even place. One that begins after so many bytes ends after them, so it is not looked at.
 #[tactic(auto, unfolding(memory_spec::specs::Rings::ends))]
 pub fn has_end_in_half(bytes: &[u8], size: u64) -> bool
     ensures { result ≡ list_any (ends_in_half size) (ends bytes.now) }

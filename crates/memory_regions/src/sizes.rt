@@ -50,8 +50,8 @@ fn add_reached(
     Ok(())
 }
 
-// The sizes that these bytes reach. For each size that no page tells its bytes are looked at: as each is twice the one
-// before, that is twice as many as there are, at most.
+// The sizes that these bytes reach. If no marked page tells a size, the bytes up to it are looked at. Each size is twice
+// the one before, so these are at most twice as many bytes as there are.
 #[tactic(auto, unfolding(memory_spec::specs::Sizes::powers))]
 fn reached(alloc: Global, bytes: &[u8]) -> Result<Vec<u64>, AllocError>
     ensures { IfOk result (λ list. list.items ≡ sizes_of None bytes.now) }

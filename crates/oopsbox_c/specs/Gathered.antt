@@ -21,7 +21,7 @@ pub record IsGathered (f : Flying) (image line payload : List ℕ) (s : Steps) (
   pub stands : (before : List ℕ) → StandsFor f image before
       → StandsFor (flying s line payload) (after_stores image (stores_in out line payload)) before
 
--- its stores are the first of all these, and those that the steps leave on the image behind them are the others
+-- its stores are the first of all these; the others are those that the steps leave on the image after them
 pub record IsComing (all : List Store) (image line payload : List ℕ) (s : Steps) (out : Stores) : Type 0 where
   pub bytes : AreBytes (after_stores image (stores_in out line payload))
   pub whole : all ≡ stores_in out line payload

@@ -16,7 +16,7 @@ use Rattle.zone_spec.specs.Zones.{IsValidZone}
 use Rattle.zone_spec.specs.Parts.{AreBytes, Header, Block}
 use Rattle.zone_spec.specs.declared.State.{State}
 use Rattle.zone_spec.specs.declared.State.TheVariants.{Unsigned, Empty, Invalid, Found}
-use Rattle.zone_spec.specs.PartReadings.{PartReading, part_reading, words_read}
+use Rattle.zone_spec.specs.PartReadings.{part_reading, words_read}
 use Rattle.zone_spec.specs.Reading.{ZoneReading, byte_read, log_read, state_of, reading_in, zone_reading, IsRing}
 use Rattle.prz_read.specs.Reads.{bytes_read, corrected_below, bad_below}
 use Rattle.ring_laws.proofs.BootLaw.{length-reading}

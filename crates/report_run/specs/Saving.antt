@@ -7,14 +7,13 @@ use Rattle.report_run.specs.declared.failures.Failure.{Failure}
 use Rattle.report_run.specs.declared.failures.Failure.TheVariants.{Memory, Unsaved}
 use Rattle.report_run.specs.States.{Folder}
 
--- why not all were made: one was not, or memory ran out
+-- why not all were made: one was not, or memory ran out and the folder failed at nothing
 abbrev pub IsKeptBack : ℕ → ℕ → Failure → Type 0
 IsKeptBack before now (Unsaved why) = Rose before now
 IsKeptBack before now Memory = now ≡ before
 IsKeptBack before now other = ⊥
 
--- no file was made, as where the folder itself fails, also of a report without records; or the first files were made,
--- and not all
+-- no file was made: the folder itself can fail, even for a report without records. Or the first were made, and not all
 abbrev pub MakesSome : ReportHeld → Option Files → Option Files → Type 0
 MakesSome report before now = (now ≡ before) ⊎ MakesFirst report.origin report.records before now
 

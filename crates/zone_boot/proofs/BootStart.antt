@@ -1,8 +1,7 @@
 -- Where a boot begins
 use Rattle.std.proofs.Common.{◌≡◌, ℕ, ◌+◌, ◌-◌, ◌/◌, ◌≤◌, Bool, if◌then◌else◌, List, [], ◌++◌, length, drop, flat_map}
-use Rattle.std.proofs.Common.{slice_range, refl, sym, ap, ap₂, ◌∙◌, arith, w32, length-take, length-drop}
+use Rattle.std.proofs.Common.{slice_range, refl, sym, ap, ap₂, ◌∙◌, arith, length-take, length-drop}
 use Rattle.std.specs.List.{range_with_len}
-use Rattle.std.proofs.lemmas.Nat.{le_bytes_4}
 use Rattle.list_laws.proofs.Slices.{append-slice_range_thirds}
 use Rattle.zone_spec.specs.declared.Zone.{Zone}
 use Rattle.zone_spec.specs.declared.Words.{Words}

@@ -13,7 +13,7 @@ ghost use Rattle.zone_spec.specs.Parts.{Header as HeaderPart, Block};
 ghost use Rattle.zone_spec.specs.PartReadings.{part_reading, words_read};
 ghost use Rattle.zone_boot.specs.Handed.{handed, handed_len, IsPlain};
 
-use crate::deciding::{Erasure, block_count, erasure_of, keeps_in};
+use crate::deciding::{Erasure, block_count, erasure_of, keeps_in_place};
 use crate::handing::BootStore;
 use crate::summaries::state_of;
 use arrayvec::ArrayVec;
@@ -79,7 +79,7 @@ impl Boot {
             zone,
             words,
             state,
-            keeps_in(table, image, zone, words, state),
+            keeps_in_place(table, image, zone, words, state),
         )
     }
 

@@ -44,8 +44,8 @@ pub fn is_open(words: Words, cap: u32) -> bool
 }
 
 /// Whether a boot leaves a zone with these words, which make this state, without erasing it (`fs/pstore/ram.c`). That
-/// an ftrace ring which cannot be appended to is erased is the project's own choice. `is_timed` tells whether a dump
-/// begins with a time line; nothing else asks for it.
+/// an ftrace ring which cannot be appended to is erased is the project's own choice. `is_timed` counts only for a dump
+/// that was found: whether its log begins with a time line.
 pub fn keeps(zone: &Zone, words: Words, state: State, is_timed: bool) -> bool
     ensures { (reading : ZoneReading) → reading.words ≡ words → reading.state ≡ state
         → (zone.now.name.kind ≡ Dump → state ≡ Found → is_timed ≡ has_line reading.log)
@@ -60,7 +60,7 @@ pub fn keeps(zone: &Zone, words: Words, state: State, is_timed: bool) -> bool
 }
 
 /// As [`keeps`], of a zone in place. Only a dump that was found is asked for its time line.
-pub(crate) fn keeps_in(
+pub(crate) fn keeps_in_place(
     table: &[u128],
     image: &[u8],
     zone: &Zone,

@@ -30,7 +30,7 @@ pub struct Counts {
     pub bad: u32,
 }
 
-/// What a part that decodes so counts.
+/// What a part with this outcome adds.
 pub fn counts_of(outcome: Decoded) -> Counts
     ensures corrected { (reading : PartReading) → CountsAre outcome reading → result.corrected ≡ reading.corrected }
     ensures bad { (reading : PartReading) → CountsAre outcome reading → result.bad ≡ reading.bad }

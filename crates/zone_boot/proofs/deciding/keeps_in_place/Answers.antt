@@ -1,12 +1,9 @@
--- The time line is asked for where it counts. For `keeps_in`.
-use Rattle.std.proofs.Common.{◌≡◌, Bool, sym, ap, ◌∙◌}
-use Rattle.zone_spec.specs.declared.Kind.TheVariants.{Dump}
-use Rattle.zone_spec.specs.declared.State.TheVariants.{Found}
+-- The time line is asked for where it counts. For `keeps_in_place`.
+use Rattle.std.proofs.Common.{sym, ap, ◌∙◌}
 use Rattle.zone_spec.specs.Reading.{zone_reading, state_of}
-use Rattle.zone_spec.specs.TimeLines.{has_line}
 use Rattle.ring_laws.proofs.States.{reading_words, reading_state}
-use Rattle.zone_boot.proofs.deciding.keeps_in.Goals.{in-Found-Dump, in_default, in_default-2}
-use Rattle.zone_boot.proofs.deciding.keeps_in.Goals as goal
+use Rattle.zone_boot.proofs.deciding.keeps_in_place.Goals.{in-Found-Dump, in_default, in_default-2}
+use Rattle.zone_boot.proofs.deciding.keeps_in_place.Goals as goal
 
 pub returns : goal.returns
 returns c =
