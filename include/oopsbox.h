@@ -202,7 +202,7 @@ struct oopsbox_store {
 	uint64_t from;      /* LINE, PAYLOAD: the bytes are line[from .. from + len) or payload[from .. from + len) */
 	uint32_t what;      /* OOPSBOX_WORD .. OOPSBOX_BYTES */
 	uint32_t place;     /* counted from the zone's first byte */
-	uint32_t len;       /* how many bytes; 4 for a word */
+	uint32_t len;       /* how many bytes, at least one; 4 for a word */
 	uint32_t word;      /* WORD: the four bytes as a little-endian number */
 	uint8_t bytes[128]; /* BYTES: the first len of these; WORD: the first four are the word's */
 };

@@ -70,6 +70,18 @@ const DONE: &[(&str, &str)] = &[
         "console-pstore_blk-0 8\nabcdefgh\n",
     ),
     (
+        "boot\ncut 15\nwrite console 616263\ncut 100\nwrite console 64\nboot\nextract console-pstore_blk-0\n",
+        "console-pstore_blk-0 4\nabcd\n",
+    ),
+    (
+        "boot\ncut 14\nwrite console 616263\ncut 100\nwrite console 64\nboot\nextract console-pstore_blk-0\n",
+        "console-pstore_blk-0 3\nabc\n",
+    ),
+    (
+        "boot\nkdump 5 6000 D Panic 78\nboot\nkdump 9 0 D Oops 7a\nextract dmesg-pstore_blk-0\nboot\nlist\n",
+        "dmesg-pstore_blk-0 22\nPanic: Total 1 times\nx\nrecords 1\ndmesg-pstore_blk-0 21 9.000000000\n",
+    ),
+    (
         "boot\nwrite pmsg 61\ncut 0\nboot\nerase pmsg-pstore_blk-0\nlist\nwrite pmsg 62\nboot\nlist\n",
         "records 0\nrecords 1\npmsg-pstore_blk-0 1\n",
     ),

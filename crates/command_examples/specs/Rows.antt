@@ -46,7 +46,7 @@ FirstCrash =
     (codes "boot\nkmsg 6f6e65\nkmsg 74776f\ncrash Panic 7 0\nstop\nboot\nlist\nextract dmesg-ramoops-0\n")
     ≡ (codes "boot dump-0 unsigned start 0 size 0 corrected 0 bad 0 nothing told\nboot dump-1 unsigned start 0 size 0 corrected 0 bad 0 nothing told\nboot console unsigned start 0 size 0 corrected 0 bad 0 nothing told\nboot pmsg unsigned start 0 size 0 corrected 0 bad 0 nothing told\nboot dump-0 found start 37 size 37 corrected 0 bad 0 as told\nboot dump-1 empty start 0 size 0 corrected 0 bad 0 as told\nboot console empty start 0 size 0 corrected 0 bad 0 as told\nboot pmsg empty start 0 size 0 corrected 0 bad 0 as told\nrecords 1\ndmesg-ramoops-0 22 7.000000\ndmesg-ramoops-0 22\nPanic#1 Part1\none\ntwo\n\n", 0)
 
--- the worked layouts
+-- the worked layouts; `ecc_dump=16` beside `ecc=1` is the same parity, so no line names it
 abbrev pub WorkedLayouts : Type 0
 WorkedLayouts =
     (told (codes "image layout mem_size=16384 ftrace_size=0 ecc=1") [] []
@@ -55,6 +55,8 @@ WorkedLayouts =
     ≡ (codes "mem 2048 parity 0 zones 4\ndump-0 at 0 size 596 cap 584 blocks 5\ndump-1 at 596 size 596 cap 584 blocks 5\ndump-2 at 1192 size 596 cap 584 blocks 5\nconsole at 1788 size 256 cap 244 blocks 2\n", 0))
     × (told (codes "image layout mem_size=16384 ftrace_size=0 ecc=1 block_size=32 ecc_dump=0") [] []
     ≡ (codes "mem 16384 parity 16 zones 4\ndump-0 at 0 size 4096 cap 4084 blocks 128 parity 0 block 32\ndump-1 at 4096 size 4096 cap 4084 blocks 128 parity 0 block 32\nconsole at 8192 size 4096 cap 2708 blocks 85 parity 16 block 32\npmsg at 12288 size 4096 cap 2708 blocks 85 parity 16 block 32\n", 0))
+    × (told (codes "image layout mem_size=16384 ftrace_size=0 ecc=1 ecc_dump=16") [] []
+    ≡ told (codes "image layout mem_size=16384 ftrace_size=0 ecc=1") [] [])
 
 -- what a script on zeros shows
 abbrev pub refused : List ℕ → List ℕ × ℕ
@@ -122,6 +124,23 @@ CutBlockWrite =
     blk_told (replicate 16384 0)
     (codes "boot\nwrite console 616263\ncut 5\nwrite console 6465666768\nboot\nextract console-pstore_blk-0\n")
     ≡ (codes "console-pstore_blk-0 3\nabc\n", 0)
+
+-- three bytes and a header are 15: a cut there drops none, and another limit counts; one byte less is a loss of power
+abbrev pub CutAtTheEnd : Type 0
+CutAtTheEnd =
+    (blk_told (replicate 16384 0)
+    (codes "boot\ncut 15\nwrite console 616263\ncut 100\nwrite console 64\nboot\nextract console-pstore_blk-0\n")
+    ≡ (codes "console-pstore_blk-0 4\nabcd\n", 0))
+    × (blk_told (replicate 16384 0)
+    (codes "boot\ncut 14\nwrite console 616263\ncut 100\nwrite console 64\nboot\nextract console-pstore_blk-0\n")
+    ≡ (codes "console-pstore_blk-0 3\nabc\n", 0))
+
+-- a dump in the zone of a listed one: that is listed as it was saved, up to the next loading
+abbrev pub OverwrittenDump : Type 0
+OverwrittenDump =
+    blk_told (replicate 16384 0)
+    (codes "boot\nkdump 5 6000 D Panic 78\nboot\nkdump 9 0 D Oops 7a\nlist\nextract dmesg-pstore_blk-0\nboot\nlist\n")
+    ≡ (codes "records 1\ndmesg-pstore_blk-0 22 5.000006000\ndmesg-pstore_blk-0 22\nPanic: Total 1 times\nx\nrecords 1\ndmesg-pstore_blk-0 21 9.000000000\n", 0)
 
 -- lines that the block store refuses
 abbrev pub BlockRefusals : Type 0

@@ -7,7 +7,8 @@ ghost use Rattle.command_examples.specs.Rows.{WorkedFaults, CommandsWithoutScrip
 ghost use Rattle.command_examples.specs.Rows.{BlockRefusals, FirstMove, MoveToParity, MoveOfTwoZones};
 ghost use Rattle.command_examples.specs.Rows.{MoveOfUnlistedDump, MoveRefusals, TwoWriters, LaterWriter};
 ghost use Rattle.command_examples.specs.Rows.{SharedRefusals, RingInDump, TwoShapesAtOnePlace, NoRingInDump};
-ghost use Rattle.command_examples.specs.Rows.{CorrectedRing};
+ghost use Rattle.command_examples.specs.Rows.{CorrectedRing, CutAtTheEnd, OverwrittenDump};
+ghost use Rattle.command_examples.specs.Blocks.{AppendToTheEnd, RaisedCounters, CountedDumps, CountersRead};
 
 /// The first draws of a generated session.
 pub fn first_draws()
@@ -67,6 +68,24 @@ pub fn first_block_session()
 /// A write to the block store that is cut within its data.
 pub fn cut_block_write()
     ensures { CutBlockWrite }
+{}
+
+/// A write to the block store that is cut exactly at its end, and one byte before.
+pub fn cut_at_the_end()
+    ensures { CutAtTheEnd }
+{}
+
+/// A dump that overwrites a listed one.
+pub fn overwritten_dump()
+    ensures { OverwrittenDump }
+{}
+
+/// An append of the block store that ends with the ring, and the counters of its dumps.
+pub fn block_calls()
+    ensures append_to_the_end { AppendToTheEnd }
+    ensures raised { RaisedCounters }
+    ensures counted { CountedDumps }
+    ensures counters { CountersRead }
 {}
 
 /// Lines that the block store refuses.

@@ -7,12 +7,23 @@ use Rattle.std.specs.Option.{option_or}
 use Rattle.death_spec.specs.declared.Line.{Line}
 use Rattle.death_spec.specs.declared.Mark.{Mark}
 use Rattle.death_spec.specs.Lines.{lines_from, kind}
-use Rattle.death_spec.specs.Telling.{last_of, opens, ends_report, open_behind, last_opening}
-use Rattle.death_spec.specs.Reports.{first_where}
+use Rattle.death_spec.specs.Telling.{last_of, opens, open_behind, last_opening}
+use Rattle.death_spec.specs.declared.Span.{Span}
+use Rattle.death_spec.specs.Reports.{locked_of, ends_below, report, first_where}
 
 -- the lines up to the end of a report
-abbrev pub in_report : List ℕ → Bool → List Line → List Line
-in_report text is_open lines = take_while (λ line. not (ends_report is_open (kind text line))) lines
+abbrev pub in_report : List ℕ → (Option Mark → Line → Bool) → List Line → List Line
+in_report text ends lines = take_while (λ line. not (ends (kind text line) line)) lines
+
+-- the report of a line, by what that is
+pub report_by : (text : List ℕ) (p : Line → Bool) (telling : Line) (head : Option Mark) (locked : Option Span)
+    → head ≡ kind text telling → locked ≡ locked_of text telling
+    → first_where p (report text telling)
+    ≡ first_where p (in_report text (ends_below text head locked) (lines_from text telling.next))
+report_by text p telling head locked is_head is_locked =
+    ap (λ h. first_where p (in_report text (ends_below text h (locked_of text telling)) (lines_from text telling.next)))
+    (sym is_head)
+    ∙ ap (λ l. first_where p (in_report text (ends_below text head l) (lines_from text telling.next))) (sym is_locked)
 
 pub or_none : {X : Type 0} (x : Option X) → option_or x None ≡ x
 or_none None = refl
@@ -43,80 +54,82 @@ unfolding last_of
 last_none text counts last = refl
 
 -- the lines of a report: the first one, if it does not end it
-first_step : (text : List ℕ) (p : Line → Bool) (is_open : Bool) (line : Line) (lines : List Line)
-    → first_where p (in_report text is_open (line ∷ lines))
-    ≡ cond (not (ends_report is_open (kind text line))) (first_where p (line ∷ in_report text is_open lines)) None
+first_step : (text : List ℕ) (p : Line → Bool) (ends : Option Mark → Line → Bool) (line : Line) (lines : List Line)
+    → first_where p (in_report text ends (line ∷ lines))
+    ≡ cond (not (ends (kind text line) line)) (first_where p (line ∷ in_report text ends lines)) None
 unfolding first_where
-first_step text p is_open line lines =
-    ap (first_where p) (take_while-cons (λ l. not (ends_report is_open (kind text l))) line lines)
-    ∙ by (not (ends_report is_open (kind text line)))
+first_step text p ends line lines =
+    ap (first_where p) (take_while-cons (λ l. not (ends (kind text l) l)) line lines)
+    ∙ by (not (ends (kind text line) line))
   where
-    by : (t : Bool) → first_where p (cond t (line ∷ in_report text is_open lines) [])
-        ≡ cond t (first_where p (line ∷ in_report text is_open lines)) None
+    by : (t : Bool) → first_where p (cond t (line ∷ in_report text ends lines) [])
+        ≡ cond t (first_where p (line ∷ in_report text ends lines)) None
     by true = refl
     by false = refl
 
-first_ended : (text : List ℕ) (p : Line → Bool) (is_open : Bool) (line : Line) (lines : List Line)
-    → ends_report is_open (kind text line) ≡ true
-    → first_where p (in_report text is_open (line ∷ lines)) ≡ None
-first_ended text p is_open line lines e =
-    first_step text p is_open line lines
-    ∙ ap (λ t. cond (not t) (first_where p (line ∷ in_report text is_open lines)) None) e
+first_ended : (text : List ℕ) (p : Line → Bool) (ends : Option Mark → Line → Bool) (line : Line) (lines : List Line)
+    → ends (kind text line) line ≡ true
+    → first_where p (in_report text ends (line ∷ lines)) ≡ None
+first_ended text p ends line lines e =
+    first_step text p ends line lines
+    ∙ ap (λ t. cond (not t) (first_where p (line ∷ in_report text ends lines)) None) e
 
-first_more : (text : List ℕ) (p : Line → Bool) (is_open : Bool) (line : Line) (lines : List Line) (found : Option Line)
-    → ends_report is_open (kind text line) ≡ false
-    → option_or found (first_where p (in_report text is_open (line ∷ lines)))
-    ≡ option_or (option_or found (cond (p line) (Some line) None)) (first_where p (in_report text is_open lines))
+first_more : (text : List ℕ) (p : Line → Bool) (ends : Option Mark → Line → Bool) (line : Line) (lines : List Line)
+    (found : Option Line)
+    → ends (kind text line) line ≡ false
+    → option_or found (first_where p (in_report text ends (line ∷ lines)))
+    ≡ option_or (option_or found (cond (p line) (Some line) None)) (first_where p (in_report text ends lines))
 unfolding first_where
-first_more text p is_open line lines found e =
+first_more text p ends line lines found e =
     ap (option_or found)
-    (first_step text p is_open line lines
-    ∙ ap (λ t. cond (not t) (first_where p (line ∷ in_report text is_open lines)) None) e)
+    (first_step text p ends line lines
+    ∙ ap (λ t. cond (not t) (first_where p (line ∷ in_report text ends lines)) None) e)
     ∙ by found (p line)
   where
     by : (x : Option Line) (t : Bool)
-        → option_or x (cond t (Some line) (first_where p (in_report text is_open lines)))
-        ≡ option_or (option_or x (cond t (Some line) None)) (first_where p (in_report text is_open lines))
+        → option_or x (cond t (Some line) (first_where p (in_report text ends lines)))
+        ≡ option_or (option_or x (cond t (Some line) None)) (first_where p (in_report text ends lines))
     by None true = refl
     by None false = refl
     by (Some y) t = refl
 
 -- the same from the place of the line on, by what was found of the line
-pub head_more : (text : List ℕ) (p : Line → Bool) (is_open : Bool) (at : ℕ) (line : Line)
+pub head_more : (text : List ℕ) (p : Line → Bool) (ends : Option Mark → Line → Bool) (at : ℕ) (line : Line)
     (found wanted now : Option Line)
     (k : Option Mark) (t : Bool)
-    → wanted ≡ option_or found (first_where p (in_report text is_open (lines_from text at)))
-    → lines_from text at ≡ line ∷ lines_from text line.next → k ≡ kind text line → ends_report is_open k ≡ false
+    → wanted ≡ option_or found (first_where p (in_report text ends (lines_from text at)))
+    → lines_from text at ≡ line ∷ lines_from text line.next → k ≡ kind text line → ends k line ≡ false
     → t ≡ p line → now ≡ option_or found (cond t (Some line) None)
-    → wanted ≡ option_or now (first_where p (in_report text is_open (lines_from text line.next)))
-head_more text p is_open at line found wanted now k t so_far here is_kind goes_on is is_now =
-    so_far ∙ ap (λ ls. option_or found (first_where p (in_report text is_open ls))) here
-    ∙ first_more text p is_open line (lines_from text line.next) found
-    (sym (ap (ends_report is_open) is_kind) ∙ goes_on)
+    → wanted ≡ option_or now (first_where p (in_report text ends (lines_from text line.next)))
+head_more text p ends at line found wanted now k t so_far here is_kind goes_on is is_now =
+    so_far ∙ ap (λ ls. option_or found (first_where p (in_report text ends ls))) here
+    ∙ first_more text p ends line (lines_from text line.next) found
+    (sym (ap (λ m. ends m line) is_kind) ∙ goes_on)
     ∙ ap (λ (b : Bool). option_or (option_or found (cond b (Some line) None)) below) (sym is)
     ∙ ap (λ x. option_or x below) (sym is_now)
   where
     below : Option Line
-    below = first_where p (in_report text is_open (lines_from text line.next))
+    below = first_where p (in_report text ends (lines_from text line.next))
 
 -- the report ends at the line
-pub head_ended : (text : List ℕ) (p : Line → Bool) (is_open : Bool) (at : ℕ) (line : Line) (found wanted : Option Line)
-    (k : Option Mark)
-    → wanted ≡ option_or found (first_where p (in_report text is_open (lines_from text at)))
-    → lines_from text at ≡ line ∷ lines_from text line.next → k ≡ kind text line → ends_report is_open k ≡ true
+pub head_ended : (text : List ℕ) (p : Line → Bool) (ends : Option Mark → Line → Bool) (at : ℕ) (line : Line)
+    (found wanted : Option Line) (k : Option Mark)
+    → wanted ≡ option_or found (first_where p (in_report text ends (lines_from text at)))
+    → lines_from text at ≡ line ∷ lines_from text line.next → k ≡ kind text line → ends k line ≡ true
     → found ≡ wanted
-head_ended text p is_open at line found wanted k so_far here is_kind ends =
-    sym (so_far ∙ ap (λ ls. option_or found (first_where p (in_report text is_open ls))) here
-    ∙ ap (option_or found) (first_ended text p is_open line (lines_from text line.next)
-    (sym (ap (ends_report is_open) is_kind) ∙ ends)) ∙ or_none found)
+head_ended text p ends at line found wanted k so_far here is_kind is_end =
+    sym (so_far ∙ ap (λ ls. option_or found (first_where p (in_report text ends ls))) here
+    ∙ ap (option_or found) (first_ended text p ends line (lines_from text line.next)
+    (sym (ap (λ m. ends m line) is_kind) ∙ is_end)) ∙ or_none found)
 
 -- the text ends
-pub head_none : (text : List ℕ) (p : Line → Bool) (is_open : Bool) (at : ℕ) (found wanted : Option Line)
-    → wanted ≡ option_or found (first_where p (in_report text is_open (lines_from text at)))
+pub head_none : (text : List ℕ) (p : Line → Bool) (ends : Option Mark → Line → Bool) (at : ℕ)
+    (found wanted : Option Line)
+    → wanted ≡ option_or found (first_where p (in_report text ends (lines_from text at)))
     → lines_from text at ≡ [] → found ≡ wanted
 unfolding first_where
-head_none text p is_open at found wanted so_far past =
-    sym (so_far ∙ ap (λ ls. option_or found (first_where p (in_report text is_open ls))) past ∙ or_none found)
+head_none text p ends at found wanted so_far past =
+    sym (so_far ∙ ap (λ ls. option_or found (first_where p (in_report text ends ls))) past ∙ or_none found)
 
 -- one line more, which may open a report
 pub opening_more : (text : List ℕ) (is_open : Bool) (line : Line) (lines : List Line) (last : Option Line)

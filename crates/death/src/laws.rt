@@ -48,6 +48,37 @@ pub fn a_program_tells_nothing()
     ensures { death_of (codes "<12>BUG: a") ≡ None }
 {}
 
+/// A lockup's processor is the one that its line names, and not the one that saw it and wrote the report.
+pub fn a_lockup_names_its_processor()
+    ensures { option_map (λ d. d.cpu)
+        (death_of (codes "watchdog: CPU0: Watchdog detected hard LOCKUP on cpu 13" ++ 10 ∷ codes "CPU: 0 PID: 9"))
+        ≡ Some (Some (record { start = 53; end = 55 })) }
+{}
+
+/// The report of a lockup has nothing that another processor wrote, and that of a task that hangs nothing of another.
+pub fn reports_of_others_are_left_out()
+    ensures processor { option_map (λ d. d.task)
+        (death_of (codes "Watchdog detected hard LOCKUP on cpu 1" ++ 10 ∷ codes "CPU: 0 PID: 9")) ≡ Some None }
+    ensures task { option_map (λ d. d.function)
+        (death_of (codes "INFO: task a:1 blocked for more than 5" ++ 10
+        ∷ codes "INFO: task a:1 is blocked on a mutex" ++ 10 ∷ codes " b+0x1")) ≡ Some None }
+{}
+
+/// `INFO: task .. is blocked on a mutex` tells nothing, and is not taken for a later task that hangs.
+pub fn a_blocker_is_no_second_task()
+    ensures alone { death_of (codes "INFO: task a:1 is blocked on a mutex") ≡ None }
+    ensures telling { option_map (λ d. d.telling.start)
+        (death_of (codes "INFO: task a:1 blocked for more than 5" ++ 10
+        ∷ codes "INFO: task a:1 is blocked on a mutex" ++ 10
+        ∷ codes "Kernel panic - not syncing: hung_task: blocked tasks")) ≡ Some 0 }
+{}
+
+/// A task that waits for a device is named too.
+pub fn a_task_in_io_wait_is_named()
+    ensures { option_map (λ d. d.task) (death_of (codes "INFO: task a:1 blocked in I/O wait for more than 5"))
+        ≡ Some (Some (record { start = 11; end = 14 })) }
+{}
+
 /// An entry that the kernel is unsure of is none of the trace.
 pub fn unsure_entries_are_left_out()
     ensures { trace_of (codes "BUG: a" ++ 10 ∷ codes "Call Trace:" ++ 10 ∷ codes "? b+0x1" ++ 10 ∷ codes " c+0x1")

@@ -5,9 +5,11 @@ ghost use Rattle.death.specs.Rows.{Covers};
 ghost use Rattle.death_spec.specs.Lines.{bracket_end, level_len, stamp_len, caller_len, unreturned_len, uncoloured_len};
 ghost use Rattle.death_spec.specs.Lines.{content, line_of};
 ghost use Rattle.death_spec.specs.Lines.{lines_from, part, digits_level, level_of, is_kernels, said, kind, is_a};
-ghost use Rattle.death_spec.specs.Lines.{unnumbered, mark_in};
+ghost use Rattle.death_spec.specs.Lines.{unnumbered, has, task_mark, warning_mark, mark_in};
 
-use crate::marks::{byte_at, is_mark, line_len, mark_by, mark_of, run_from, starts_with, tail};
+use crate::marks::{
+    byte_at, front_len, is_mark, line_len, mark_by, mark_of, place_of, run_from, starts_with, tail,
+};
 use crate::prefixes::past_pieces;
 use death_spec::{Class, Line, Mark};
 
@@ -175,17 +177,58 @@ pub fn said(text: &[u8], line: Line) -> &[u8]
 pub fn unnumbered(words: &[u8]) -> &[u8]
     ensures { result.now ≡ unnumbered words.now }
 {
-    part(words, run_from(words, 4, Class::Digit) + 1, words.len())
+    let end = run_from(words, front_len(words), Class::Digit);
+    if byte_at(words, end) == b':' {
+        part(words, end + 2, words.len())
+    } else {
+        part(words, end + 1, words.len())
+    }
 }
 
-// A processor's number can stand before the words that count.
+// Whether words of a mark stand anywhere in a text.
+fn has(words: &[u8], mark: Mark) -> bool
+    ensures { result ≡ has mark words.now }
+{
+    place_of(words, mark) < words.len()
+}
+
+fn task_mark(words: &[u8]) -> Mark
+    ensures { result ≡ task_mark words.now }
+{
+    if has(words, Mark::Blocked) {
+        Mark::HungTask
+    } else {
+        Mark::OnTask
+    }
+}
+
+fn warning_mark(words: &[u8]) -> Mark
+    ensures { result ≡ warning_mark words.now }
+{
+    if has(words, Mark::Warned) {
+        Mark::Warning
+    } else {
+        Mark::Caution
+    }
+}
+
+// A processor's number can stand before the words that count. A line on a task counts only if it says how long, and one
+// that warns only if it names its processor.
 fn mark_in(words: &[u8], mark: Option<Mark>) -> Option<Mark>
     ensures { result ≡ mark_in words.now mark }
 {
     if is_mark(mark, Mark::Numbered) {
         mark_of(unnumbered(words))
     } else {
-        mark
+        if is_mark(mark, Mark::OnTask) {
+            Some(task_mark(words))
+        } else {
+            if is_mark(mark, Mark::Caution) {
+                Some(warning_mark(words))
+            } else {
+                mark
+            }
+        }
     }
 }
 

@@ -1,6 +1,6 @@
 // Words at the front of a text, and runs of bytes.
 ghost use Rattle.std.specs.Prelude.{◌≡◌, ◌≤◌, ◌<◌, ◌+◌, ℕ, List, ◌∷◌, true, false, nat_eq, slice_index_or, length};
-ghost use Rattle.std.specs.Prelude.{drop, slice_index};
+ghost use Rattle.std.specs.Prelude.{drop, slice_index, IfSome};
 ghost use Rattle.std.specs.List.{starts_with};
 ghost use Rattle.death_spec.specs.Marks.{rows, number_of, is_same, front_in, front_of, front_len, mark_of, is_mark};
 ghost use Rattle.death_spec.specs.Marks.{begins, place_of, is_in, is_blank, is_of_name, run};
@@ -33,7 +33,8 @@ pub fn starts_with(text: &[u8], words: &[u8]) -> bool
 }
 
 fn front_in(rows: &[(Mark, &[u8])], text: &[u8]) -> Option<(Mark, usize)>
-    ensures { result ≡ front_in (plain rows.now) text.now }
+    ensures front { result ≡ front_in (plain rows.now) text.now }
+    ensures within { IfSome result (λ front. front.1 ≤ length text.now) }
 {
     for row in rows {
         if starts_with(text, row.1) {
@@ -46,7 +47,8 @@ fn front_in(rows: &[(Mark, &[u8])], text: &[u8]) -> Option<(Mark, usize)>
 /// The mark of the first row whose words the text begins with, and how many bytes these have.
 #[tactic(auto, unfolding(death_spec::specs::Marks::front_of))]
 fn front_of(text: &[u8]) -> Option<(Mark, usize)>
-    ensures { result ≡ front_of text.now }
+    ensures front { result ≡ front_of text.now }
+    ensures within { IfSome result (λ front. front.1 ≤ length text.now) }
 {
     front_in(WORDS, text)
 }
@@ -106,7 +108,8 @@ pub fn mark_by(firsts: &[bool; 256], text: &[u8]) -> Option<Mark>
 
 /// How many bytes the words have that the text begins with, or 0.
 pub fn front_len(text: &[u8]) -> usize
-    ensures { result ≡ front_len text.now }
+    ensures len { result ≡ front_len text.now }
+    ensures within { result ≤ length text.now }
 {
     match front_of(text) {
         Some((_, len)) => len,

@@ -8,8 +8,9 @@ ghost use Rattle.death_spec.specs.Traces.{is_entry, name_in};
 ghost use Rattle.death_spec.specs.Reports.{report, first_where, first_in, own_in, trace_in, span, number_end, task_at};
 ghost use Rattle.death_spec.specs.Reports.{task_end, cpu_in, task_in, kernel_in, hung_in, task_of, named_from, place_end};
 ghost use Rattle.death_spec.specs.Reports.{name_from, blamed_at, place_in, entry_end, entry_in, traced_in, is_next_at};
-ghost use Rattle.death_spec.specs.Reports.{own_kernel_in, kernel_of, message_of};
-ghost use Rattle.death_spec.specs.Reports.{sure, by_call, of_place, of_calls, function_in, death_with, death_at};
+ghost use Rattle.death_spec.specs.Reports.{own_kernel_in, kernel_of, message_of, is_lockup, locked_at, locked_in};
+ghost use Rattle.death_spec.specs.Reports.{locked_of, cpu_of, differ, is_of_other, ends_below, sure, by_call, of_place};
+ghost use Rattle.death_spec.specs.Reports.{of_calls, function_in, death_with, death_at};
 ghost use Rattle.death_spec.specs.declared.Mark.TheVariants.{HungTask, Processor, Place, Link, Own};
 
 use crate::lines::{is_a, kind, kind_by, next_line, part, said};
@@ -22,6 +23,115 @@ use crate::telling::{ends_report, is_of_oops, is_panic};
 use crate::traces;
 use death_spec::{Class, Death, Function, Line, Mark, Span};
 use std::alloc::{AllocError, Global};
+
+// The part of a line between two places of what it says, if it has a byte.
+fn span(line: Line, from: usize, to: usize) -> Option<Span>
+    requires { from < to → line.text + to ≤ line.end }
+    ensures { result ≡ span line from to }
+{
+    if from < to {
+        Some(Span {
+            start: line.text + from,
+            end: line.text + to,
+        })
+    } else {
+        None
+    }
+}
+
+// Where the processor's number ends.
+fn number_end(words: &[u8]) -> usize
+    ensures end { result ≡ number_end words.now }
+    ensures within { 5 ≤ length words.now → result ≤ length words.now }
+    ensures short { length words.now < 5 → result ≡ 5 }
+{
+    run_from(words, 5, Class::Digit)
+}
+
+fn cpu_in(text: &[u8], line: Option<Line>) -> Option<Span>
+    ensures { result ≡ cpu_in text.now line }
+{
+    let line = line?;
+    span(line, 5, number_end(said(text, line)))
+}
+
+fn is_lockup(kind: Option<Mark>) -> bool
+    ensures { result ≡ is_lockup kind }
+{
+    is_mark(kind, Mark::SoftLockup) || is_mark(kind, Mark::HardLockup)
+}
+
+// Where the number begins of the processor that a lockup's line names.
+fn locked_at(words: &[u8]) -> usize
+    ensures at { result ≡ locked_at words.now }
+    ensures within { result ≤ length words.now }
+{
+    let place = place_of(words, Mark::Locked);
+    place + front_len(tail(words, place))
+}
+
+fn locked_in(text: &[u8], line: Line) -> Option<Span>
+    ensures { result ≡ locked_in text.now line }
+{
+    let words = said(text, line);
+    let from = locked_at(words);
+    span(line, from, run_from(words, from, Class::Digit))
+}
+
+// The processor that a lockup's line names.
+fn locked_of(text: &[u8], telling: Line) -> Option<Span>
+    ensures { result ≡ locked_of text.now telling }
+{
+    if is_lockup(kind(text, telling)) {
+        locked_in(text, telling)
+    } else {
+        None
+    }
+}
+
+// That one, else the report's.
+fn cpu_of(text: &[u8], telling: Line, processor: Option<Line>) -> Option<Span>
+    ensures { result ≡ cpu_of text.now telling processor }
+{
+    locked_of(text, telling).or(cpu_in(text, processor))
+}
+
+// Whether both are there, and their bytes differ.
+fn differ(text: &[u8], a: Option<Span>, b: Option<Span>) -> bool
+    ensures { result ≡ differ text.now a b }
+{
+    match (a, b) {
+        (Some(a), Some(b)) => part(text, a.start, a.end) != part(text, b.start, b.end),
+        _ => false,
+    }
+}
+
+// Whether a line begins what is told of another task, or of another processor than the one that is stuck.
+fn is_of_other(
+    text: &[u8],
+    head: Option<Mark>,
+    locked: Option<Span>,
+    mark: Option<Mark>,
+    line: Line,
+) -> bool
+    ensures { result ≡ is_of_other text.now head locked mark line }
+{
+    (is_mark(head, Mark::HungTask) && is_mark(mark, Mark::OnTask))
+        || (is_mark(mark, Mark::Processor) && differ(text, locked, cpu_in(text, Some(line))))
+}
+
+// Whether a line ends the report below a head.
+fn ends_below(
+    text: &[u8],
+    head: Option<Mark>,
+    locked: Option<Span>,
+    mark: Option<Mark>,
+    line: Line,
+) -> bool
+    ensures { result ≡ ends_below text.now head locked mark line }
+{
+    ends_report(is_of_oops(head), mark) || is_of_other(text, head, locked, mark, line)
+}
 
 /// The lines of a report that name something, each the first of its kind.
 #[derive(Clone, Copy)]
@@ -54,7 +164,8 @@ fn heads(text: &[u8], telling: Line) -> Named
     ensures own { result.own ≡ first_in text.now Own telling }
 {
     let firsts = firsts();
-    let is_open = is_of_oops(kind_by(&firsts, text, telling));
+    let head = kind_by(&firsts, text, telling);
+    let locked = locked_of(text, telling);
     let mut processor = None;
     let mut place = None;
     let mut link = None;
@@ -63,7 +174,7 @@ fn heads(text: &[u8], telling: Line) -> Named
     let mut at = telling.next;
     'lines: while let Some(line) = next_line(text, at) {
         let mark = kind_by(&firsts, text, line);
-        if ends_report(is_open, mark) {
+        if ends_below(text, head, locked, mark, line) {
             break;
         }
         let is_processor = is_mark(mark, Mark::Processor);
@@ -113,30 +224,6 @@ fn own_heads(text: &[u8], telling: Line) -> Named
     }
 }
 
-// The part of a line between two places of what it says, if it has a byte.
-fn span(line: Line, from: usize, to: usize) -> Option<Span>
-    requires { from < to → line.text + to ≤ line.end }
-    ensures { result ≡ span line from to }
-{
-    if from < to {
-        Some(Span {
-            start: line.text + from,
-            end: line.text + to,
-        })
-    } else {
-        None
-    }
-}
-
-// Where the processor's number ends.
-fn number_end(words: &[u8]) -> usize
-    ensures end { result ≡ number_end words.now }
-    ensures within { 5 ≤ length words.now → result ≤ length words.now }
-    ensures short { length words.now < 5 → result ≡ 5 }
-{
-    run_from(words, 5, Class::Digit)
-}
-
 // Where the task ends.
 fn task_end(words: &[u8]) -> usize
     ensures end { result ≡ task_end words.now }
@@ -150,13 +237,6 @@ fn task_end(words: &[u8]) -> usize
     } else {
         from
     }
-}
-
-fn cpu_in(text: &[u8], line: Option<Line>) -> Option<Span>
-    ensures { result ≡ cpu_in text.now line }
-{
-    let line = line?;
-    span(line, 5, number_end(said(text, line)))
 }
 
 fn task_in(text: &[u8], line: Option<Line>) -> Option<Span>
@@ -377,7 +457,7 @@ pub fn death_at(text: &[u8], telling: Line, second: Option<Line>) -> Death
         telling,
         second,
         message: message_of(text, telling),
-        cpu: cpu_in(text, named.processor),
+        cpu: cpu_of(text, telling, named.processor),
         task: task_of(text, telling, named.processor),
         kernel: kernel_of(text, telling, named),
         function: span_of(function),

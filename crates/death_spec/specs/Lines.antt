@@ -7,8 +7,8 @@ use Rattle.std.specs.List.{slice_split, starts_with}
 use Rattle.death_spec.specs.declared.Line.{Line}
 use Rattle.death_spec.specs.declared.Class.TheVariants.{Blank, Digit, Number}
 use Rattle.death_spec.specs.declared.Mark.{Mark}
-use Rattle.death_spec.specs.declared.Mark.TheVariants.{Numbered}
-use Rattle.death_spec.specs.Marks.{run, mark_of, is_mark}
+use Rattle.death_spec.specs.declared.Mark.TheVariants.{Numbered, HungTask, OnTask, Blocked, Warning, Caution, Warned}
+use Rattle.death_spec.specs.Marks.{run, front_len, mark_of, is_mark, place_of}
 use Rattle.death_spec.specs.Fronts.{past_pieces}
 
 -- where a bracket ends that opens at the front and has the bytes between two places in it; 0 if it is none
@@ -96,12 +96,32 @@ is_kernels text line =
 abbrev pub said : List ℕ → Line → List ℕ
 said text line = if is_kernels text line then part text line.text line.end else []
 
--- MIPS has the processor's number before the words that count: `CPU 0 Unable to handle kernel paging request ..`
+-- a processor's number can stand before the words that count, with a blank behind it on MIPS, else a colon and a blank:
+-- `CPU 0 Unable to handle kernel paging request ..`, `watchdog: CPU0: Watchdog detected hard LOCKUP on cpu 1`
 abbrev pub unnumbered : List ℕ → List ℕ
-unnumbered words = part words (4 + run Digit (drop 4 words) + 1) (length words)
+unnumbered words =
+    let end = front_len words + run Digit (drop (front_len words) words) in
+    part words (if slice_index words end == 58 then end + 2 else end + 1) (length words)
+
+-- whether words of a mark stand anywhere in a text
+abbrev pub has : Mark → List ℕ → Bool
+has mark words = nat_lt (place_of mark words) (length words)
+
+-- a hung task's line says how long the task was blocked. A line on what it waits for does not:
+-- `INFO: task a:10 is blocked on a mutex likely owned by task b:11.`
+abbrev pub task_mark : List ℕ → Mark
+task_mark words = if has Blocked words then HungTask else OnTask
+
+-- a warning's line names its processor: `WARNING: boom.c:12 at f+0x1/0x2, CPU#0: sh/1`. Another that begins so does
+-- not: `WARNING: stack recursion on stack type 4`
+abbrev pub warning_mark : List ℕ → Mark
+warning_mark words = if has Warned words then Warning else Caution
 
 abbrev pub mark_in : List ℕ → Option Mark → Option Mark
-mark_in words mark = if is_mark Numbered mark then mark_of (unnumbered words) else mark
+mark_in words mark =
+    if is_mark Numbered mark then mark_of (unnumbered words)
+    else if is_mark OnTask mark then Some (task_mark words)
+    else if is_mark Caution mark then Some (warning_mark words) else mark
 
 -- what a line is
 abbrev pub kind : List ℕ → Line → Option Mark

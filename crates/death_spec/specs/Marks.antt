@@ -7,7 +7,8 @@ use Rattle.death_spec.specs.declared.Mark.{Mark}
 use Rattle.death_spec.specs.declared.Mark.TheVariants.{Panic, Fault, SoftLockup, HardLockup, StackOverflow}
 use Rattle.death_spec.specs.declared.Mark.TheVariants.{SystemError, Oops, Warning, HungTask, Stall, End, Processor}
 use Rattle.death_spec.specs.declared.Mark.TheVariants.{Place, Link, Kernel, Blocked, Offset, Unsure, Stack, Address}
-use Rattle.death_spec.specs.declared.Mark.TheVariants.{Bare, Numbered, Own, Cut, Message}
+use Rattle.death_spec.specs.declared.Mark.TheVariants.{Bare, Numbered, Own, Cut, Message, Locked}
+use Rattle.death_spec.specs.declared.Mark.TheVariants.{OnTask, Caution, Warned}
 use Rattle.death_spec.specs.declared.words.TheConstants.{WORDS}
 use Rattle.death_spec.specs.declared.Class.{Class}
 use Rattle.death_spec.specs.declared.Class.TheVariants.{Line, Blank, Word, Name, Symbol, Digit, Number}
@@ -40,6 +41,10 @@ number_of Numbered = 21
 number_of Own = 22
 number_of Cut = 23
 number_of Message = 24
+number_of Locked = 25
+number_of OnTask = 26
+number_of Caution = 27
+number_of Warned = 28
 
 abbrev pub is_same : Mark → Mark → Bool
 is_same a b = number_of a == number_of b

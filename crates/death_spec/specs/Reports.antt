@@ -1,6 +1,6 @@
 -- What the report below the telling line names
-use Rattle.std.specs.Prelude.{ℕ, ◌+◌, ◌-◌, ◌==◌, Bool, false, not, ◌&&◌, ◌||◌, nat_eq, nat_lt, if◌then◌else◌, List, [], ◌∷◌}
-use Rattle.std.specs.Prelude.{map, length, drop, slice_index, codes, Option, Some, None}
+use Rattle.std.specs.Prelude.{ℕ, ◌+◌, ◌-◌, ◌==◌, Bool, false, not, ◌&&◌, ◌||◌, nat_eq, nat_lt, if◌then◌else◌, List, []}
+use Rattle.std.specs.Prelude.{◌∷◌, map, length, drop, slice_index, bytes_eq, codes, Option, Some, None}
 use Rattle.std.specs.List.{take_while, starts_with}
 use Rattle.std.specs.Option.{option_map, option_map_or, option_or}
 use Rattle.death_spec.specs.declared.Line.{Line}
@@ -9,8 +9,9 @@ use Rattle.death_spec.specs.declared.Function.{Function}
 use Rattle.death_spec.specs.declared.Death.{Death}
 use Rattle.death_spec.specs.declared.Class.TheVariants.{Blank, Digit, Name}
 use Rattle.death_spec.specs.declared.Mark.{Mark}
-use Rattle.death_spec.specs.declared.Mark.TheVariants.{Fault, Warning, HungTask, Processor, Place, Link, Kernel, Blocked, Offset}
-use Rattle.death_spec.specs.declared.Mark.TheVariants.{Own, Cut, Message}
+use Rattle.death_spec.specs.declared.Mark.TheVariants.{Fault, Warning, HungTask, OnTask, Processor, Place, Link, Kernel}
+use Rattle.death_spec.specs.declared.Mark.TheVariants.{Blocked, Offset, Own, Cut, Message, SoftLockup}
+use Rattle.death_spec.specs.declared.Mark.TheVariants.{HardLockup, Locked}
 use Rattle.death_spec.specs.declared.Above.{Above}
 use Rattle.death_spec.specs.Marks.{run, is_mark, front_len, begins, place_of, is_blank}
 use Rattle.death_spec.specs.Lines.{lines_from, part, said, kind, is_a}
@@ -18,12 +19,64 @@ use Rattle.death_spec.specs.Telling.{is_panic, is_of_oops, ends_report, telling_
 use Rattle.death_spec.specs.Causes.{cause_of}
 use Rattle.death_spec.specs.Traces.{name_at, unplaced, name_in, is_entry, entries_of, is_helper, to_blame}
 
+-- the part of a line between two places of what it says, if it has a byte
+abbrev pub span : Line → ℕ → ℕ → Option Span
+span line from to =
+    if nat_lt from to then Some (record { start = line.text + from; end = line.text + to }) else None
+
+-- ---- the processor
+
+-- where its number ends: `CPU: 0 PID: 1 Comm: sh Not tainted 6.1.0 #1` (dump_stack_print_info)
+abbrev pub number_end : List ℕ → ℕ
+number_end words = 5 + run Digit (drop 5 words)
+
+abbrev pub cpu_in : List ℕ → Option Line → Option Span
+cpu_in text None = None
+cpu_in text (Some line) = span line 5 (number_end (said text line))
+
+-- the one that a lockup's line names: `.. soft lockup - CPU#1 stuck for 5s! ..`, `.. detected hard LOCKUP on cpu 3`
+abbrev pub is_lockup : Option Mark → Bool
+is_lockup kind = is_mark SoftLockup kind || is_mark HardLockup kind
+
+abbrev pub locked_at : List ℕ → ℕ
+locked_at words = place_of Locked words + front_len (drop (place_of Locked words) words)
+
+abbrev pub locked_in : List ℕ → Line → Option Span
+locked_in text line =
+    span line (locked_at (said text line))
+    (locked_at (said text line) + run Digit (drop (locked_at (said text line)) (said text line)))
+
+abbrev pub locked_of : List ℕ → Line → Option Span
+locked_of text telling = if is_lockup (kind text telling) then locked_in text telling else None
+
+-- that one, else the report's
+abbrev pub cpu_of : List ℕ → Line → Option Line → Option Span
+cpu_of text telling processor = option_or (locked_of text telling) (cpu_in text processor)
+
 -- ---- the lines of the report
+
+-- whether both are there, and their bytes differ
+abbrev pub differ : List ℕ → Option Span → Option Span → Bool
+differ text None b = false
+differ text (Some a) None = false
+differ text (Some a) (Some b) = not (bytes_eq (part text a.start a.end) (part text b.start b.end))
+
+-- whether a line begins what is told of another: below a hung task the line on its blocker, and below a lockup the
+-- `CPU: ` of a processor other than the stuck one
+abbrev pub is_of_other : List ℕ → Option Mark → Option Span → Option Mark → Line → Bool
+is_of_other text head locked kind line =
+    (is_mark HungTask head && is_mark OnTask kind)
+    || (is_mark Processor kind && differ text locked (cpu_in text (Some line)))
+
+-- whether a line ends the report below a head
+abbrev pub ends_below : List ℕ → Option Mark → Option Span → Option Mark → Line → Bool
+ends_below text head locked kind line =
+    ends_report (is_of_oops head) kind || is_of_other text head locked kind line
 
 -- the lines of the report below a line
 abbrev pub report : List ℕ → Line → List Line
 report text telling =
-    take_while (λ line. not (ends_report (is_of_oops (kind text telling)) (kind text line)))
+    take_while (λ line. not (ends_below text (kind text telling) (locked_of text telling) (kind text line) line))
     (lines_from text telling.next)
 
 unfoldable pub first_where : (Line → Bool) → List Line → Option Line
@@ -42,16 +95,7 @@ own_in text mark telling = if is_a text HungTask telling then None else first_in
 abbrev pub trace_in : List ℕ → Line → List Line
 trace_in text telling = entries_of text (first_where (λ line. is_entry (said text line)) (report text telling))
 
--- the part of a line between two places of what it says, if it has a byte
-abbrev pub span : Line → ℕ → ℕ → Option Span
-span line from to =
-    if nat_lt from to then Some (record { start = line.text + from; end = line.text + to }) else None
-
--- ---- processor, task and kernel
-
--- where the processor's number ends: `CPU: 0 PID: 1 Comm: sh Not tainted 6.1.0 #1` (dump_stack_print_info)
-abbrev pub number_end : List ℕ → ℕ
-number_end words = 5 + run Digit (drop 5 words)
+-- ---- task and kernel
 
 -- where the task begins and ends
 abbrev pub task_at : List ℕ → ℕ
@@ -59,10 +103,6 @@ task_at words = number_end words + run Blank (drop (number_end words) words)
 
 abbrev pub task_end : List ℕ → ℕ
 task_end words = number_end words + place_of Kernel (drop (number_end words) words)
-
-abbrev pub cpu_in : List ℕ → Option Line → Option Span
-cpu_in text None = None
-cpu_in text (Some line) = span line 5 (number_end (said text line))
 
 abbrev pub task_in : List ℕ → Option Line → Option Span
 task_in text None = None
@@ -194,7 +234,7 @@ death_with text telling second processor = record {
   telling = telling;
   second = second;
   message = message_of text telling;
-  cpu = cpu_in text processor;
+  cpu = cpu_of text telling processor;
   task = task_of text telling;
   kernel = kernel_of text telling;
   function = option_map (λ f. f.span) (function_in text telling);

@@ -31,9 +31,9 @@ pub enum Mark {
     SystemError,
     /// The head of an oops.
     Oops,
-    /// A warning, or want of memory.
+    /// A warning, or out of memory.
     Warning,
-    /// A warning: a task waits for very long.
+    /// A warning: a task waits for very long. Its line is an `OnTask` with `Blocked`.
     HungTask,
     /// A warning: a processor never lets the kernel's RCU go on.
     Stall,
@@ -47,7 +47,7 @@ pub enum Mark {
     Link,
     /// Of the line of the processor: what the kernel says of itself.
     Kernel,
-    /// Of a task that hangs: what follows its name.
+    /// Of a task that hangs: how long it has been blocked.
     Blocked,
     /// In a call trace: what follows a function's name.
     Offset,
@@ -67,6 +67,14 @@ pub enum Mark {
     Cut,
     /// The message of a check that found the kernel's data damaged; the head of its report stands below it.
     Message,
+    /// Of a lockup: what stands before the processor's number.
+    Locked,
+    /// A line on a task. It is `HungTask` if `Blocked` stands in it.
+    OnTask,
+    /// A line that warns of something. It is `Warning` if `Warned` stands in it.
+    Caution,
+    /// Of a warning: what stands before the processor's number.
+    Warned,
 }
 
 /// What a panic is about: a report above it, by its kind and by which of that kind.
@@ -192,7 +200,7 @@ pub struct Death {
     /// The line above a warning or a `kernel BUG at` that says what was wrong, such as
     /// `refcount_t: underflow; use-after-free.`.
     pub message: Option<Line>,
-    /// The processor's number, such as `0`.
+    /// The processor's number, such as `0`: of a lockup the one that the telling line names.
     pub cpu: Option<Span>,
     /// The task, such as `PID: 1 Comm: init`.
     pub task: Option<Span>,

@@ -187,7 +187,7 @@ mce: [Hardware Error]: TSC 0\nKernel panic - not syncing: Fatal machine check\n"
     }
 }
 
-fn is_telling(text: &[u8], telling: &[u8]) -> bool {
+pub fn is_telling(text: &[u8], telling: &[u8]) -> bool {
     match death(text) {
         Some(found) => text.get(found.telling.text..found.telling.end) == Some(telling),
         None => false,

@@ -33,6 +33,17 @@ fn endings(rt: HostRuntime) {
             Ending::SwitchedOff,
             b"reboot: System halted",
         ),
+        // source: a kernel that was loaded, and a machine that cannot switch itself off
+        (
+            b"<5>[    9.1] kexec_core: Starting new kernel\n",
+            Ending::Restarted,
+            b"kexec_core: Starting new kernel",
+        ),
+        (
+            b"reboot: Power off not available: System halted instead\n",
+            Ending::SwitchedOff,
+            b"reboot: Power off not available: System halted instead",
+        ),
         (b"a\nsysrq: Resetting\n", Ending::Reset, b"sysrq: Resetting"),
         (
             b"sysrq: Emergency Sync\nEmergency Sync complete\n",

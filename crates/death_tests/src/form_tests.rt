@@ -3,7 +3,7 @@
 use crate::death_tests::assert_told;
 use death::*;
 
-fn is_named(text: &[u8], telling: &[u8], function: &[u8]) -> bool {
+pub fn is_named(text: &[u8], telling: &[u8], function: &[u8]) -> bool {
     match death(text) {
         Some(found) => is_found(text, &found, telling, function),
         None => false,

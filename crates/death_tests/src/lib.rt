@@ -10,9 +10,15 @@ mod ending_tests;
 #[cfg(test)]
 mod form_tests;
 #[cfg(test)]
+mod frame_tests;
+#[cfg(test)]
+mod hang_tests;
+#[cfg(test)]
 mod lines_tests;
 #[cfg(test)]
 mod records;
+#[cfg(test)]
+mod row_tests;
 #[cfg(test)]
 mod signature_tests;
 #[cfg(test)]

@@ -4,7 +4,7 @@ use death::*;
 use std::alloc::{AllocError, Global};
 use std::test::Fail;
 
-fn is_signed(alloc: Global, text: &[u8], wanted: &[u8]) -> Result<bool, AllocError> {
+pub fn is_signed(alloc: Global, text: &[u8], wanted: &[u8]) -> Result<bool, AllocError> {
     match death(text) {
         Some(found) => {
             let name = signature(alloc, text, &found)?;

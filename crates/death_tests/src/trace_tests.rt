@@ -14,7 +14,7 @@ fn names_of(alloc: Global, text: &[u8]) -> Result<Vec<u8>, AllocError> {
     Ok(bytes)
 }
 
-fn are_names(alloc: Global, text: &[u8], wanted: &[u8]) -> Result<bool, AllocError> {
+pub fn are_names(alloc: Global, text: &[u8], wanted: &[u8]) -> Result<bool, AllocError> {
     let names = names_of(alloc, text)?;
     Ok(names.as_slice() == wanted)
 }

@@ -7,7 +7,7 @@ use Rattle.dtb_spec.specs.Trees.{walk}
 use Rattle.dtb_spec.specs.Properties.{name_at, properties_from, value_of}
 use Rattle.dtb_spec.specs.Ramoops.{lists_ramoops, region_of, numbers_of, nodes_in, nodes_between}
 use Rattle.dtb_laws.specs.Rows.{small_tree, sized_tree, SmallRow, CutRow, TokenRow, FirstCellRow, OldBoardRow, LargeRow}
-use Rattle.dtb_laws.specs.Rows.{ShortRow, StatusRow}
+use Rattle.dtb_laws.specs.Rows.{ShortRow, StatusRow, reserved_tree, traced_tree, ReservedRow, TracedRow}
 
 pub small_row : SmallRow
 unfolding cell text_len header_of token_at property_at walk name_at properties_from value_of lists_ramoops region_of
@@ -47,3 +47,13 @@ pub status_row : StatusRow
 unfolding cell text_len header_of token_at property_at walk name_at properties_from value_of lists_ramoops region_of
     numbers_of nodes_in nodes_between sized_tree
 status_row = refl
+
+pub reserved_row : ReservedRow
+unfolding cell text_len header_of token_at property_at walk name_at properties_from value_of lists_ramoops region_of
+    numbers_of nodes_in nodes_between reserved_tree
+reserved_row = refl
+
+pub traced_row : TracedRow
+unfolding cell text_len header_of token_at property_at walk name_at properties_from value_of lists_ramoops region_of
+    numbers_of nodes_in nodes_between traced_tree
+traced_row = refl

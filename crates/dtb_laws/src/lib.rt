@@ -3,7 +3,7 @@
 
 ghost use Rattle.dtb_laws.specs.Laws.{EnoughTokens, EnoughProperties, AreLinesOfNodes};
 ghost use Rattle.dtb_laws.specs.Rows.{SmallRow, CutRow, TokenRow, FirstCellRow, OldBoardRow, LargeRow, ShortRow};
-ghost use Rattle.dtb_laws.specs.Rows.{StatusRow};
+ghost use Rattle.dtb_laws.specs.Rows.{StatusRow, ReservedRow, TracedRow};
 
 /// The nodes are the same however many more tokens may be read, so the number that the definition counts down is no
 /// limit.
@@ -21,8 +21,8 @@ pub fn are_lines_of_nodes()
     ensures { AreLinesOfNodes }
 {}
 
-/// A tree with one ramoops node, the same cut off and with another token; and each rule of the kernel for numbers and
-/// status on a second tree.
+/// A tree with one ramoops node, the same cut off and with another token; each rule of the kernel for numbers and
+/// status on a second tree; and the size of records alone, where it stays alone.
 pub fn rows()
     ensures small { SmallRow }
     ensures cut { CutRow }
@@ -32,4 +32,6 @@ pub fn rows()
     ensures large { LargeRow }
     ensures short { ShortRow }
     ensures status { StatusRow }
+    ensures reserved { ReservedRow }
+    ensures traced { TracedRow }
 {}

@@ -56,6 +56,14 @@ fn members_with_and_without_fields(rt: HostRuntime) {
     assert_text(&rt, &EMPTY, b"");
 }
 
+// FTEXT says that the file is probably a text, and nothing of its bytes.
+#[test]
+fn a_member_that_says_it_is_a_text(rt: HostRuntime) {
+    let mut file = ABC;
+    file[3] = 1;
+    assert_text(&rt, &file, b"abc");
+}
+
 // That file twice.
 const TWO: [u8; 46] = [
     0x1f, 0x8b, 8, 0, 0, 0, 0, 0, 0, 3, 0x4b, 0x4c, 0x4a, 6, 0, 0xc2, 0x41, 0x24, 0x35, 3, 0, 0, 0,

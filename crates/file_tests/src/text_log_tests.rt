@@ -70,4 +70,7 @@ fn texts_and_others(rt: HostRuntime) {
     assert!(rt; is_text_log(b"[    0.000000] Linux"));
     assert!(rt; !is_text_log(b""));
     assert!(rt; !is_text_log(b"DBGC\x00\x00\x00\x00"));
+    // erased flash, and a text behind it
+    assert!(rt; !is_text_log(b"\xff\xff\xff\xff"));
+    assert!(rt; is_text_log(b"\xff\xff\xffa"));
 }

@@ -1,7 +1,7 @@
 -- What a search answers
 use Rattle.std.proofs.Common.{◌≡◌, ◌≢◌, ℕ, ◌<◌, ◌≤◌, ◌+◌, ◌^◌, Bool, true, false, List, length, Result, Ok, Err, Option}
 use Rattle.std.proofs.Common.{Some, None, refl, sym, ap, ◌∙◌, arith, true≢false, subst, eqb-true, ◌||◌, ◌==◌, [], ◌∷◌}
-use Rattle.std.specs.Prelude.{option_map, MatchOption, nat_le, not, is_ok, is_some}
+use Rattle.std.specs.Prelude.{option_map, MatchOption, IfSome, nat_le, not, is_ok, is_some, if◌then◌else◌}
 use Rattle.std.proofs.lemmas.Bool.{leb-true, leb-false, false_from_ne_true}
 use Rattle.std.proofs.lemmas.List.Sums.{count_by-le-length}
 use Rattle.zone_spec.specs.declared.Zone.{Zone}
@@ -16,8 +16,8 @@ use Rattle.layout_spec.specs.Marks.{marks, fits}
 use Rattle.layout_spec.specs.Family.{is_of_family, is_one_of}
 use Rattle.layout_spec.specs.Order.{faults, tally_of, key, key_by, is_before}
 use Rattle.layout_spec.specs.Taken.{is_taken}
-use Rattle.layout_search.specs.Tried.{IsKept, IsSound, IsSettled, IsBestSoFar, HasFew, HasMore, is_ahead}
-use Rattle.layout_search.specs.Answers.{IsAnswer, IsNext, IsAlone, IsEmpty, AreFaulty, MayGiveUp, is_narrow}
+use Rattle.layout_search.specs.Tried.{IsKept, IsSound, IsSettled, IsBestSoFar, HasFew, HasMore, is_ahead, with_few}
+use Rattle.layout_search.specs.Answers.{IsAnswer, IsRival, IsNext, IsAlone, IsEmpty, AreFaulty, MayGiveUp, is_narrow}
 use Rattle.layout_search.specs.Answers.{IsBestUsual, IsOnly, usual}
 use Rattle.layout_search.specs.declared.progress.Best.{Best}
 use Rattle.layout_search.specs.declared.progress.Progress.{Progress}
@@ -42,10 +42,11 @@ unfolding key_by
 fewer_faults t u c d h = less_before t.faults u.faults _ _ h
 
 -- with fewer faults than the best a layout is before it
-fewer_ahead : (known : Known) (image : List ℕ) (d : Candidate) (limit : ℕ) (best : Option Best) → HasMore limit best
-    → IsSound known image None best → faults image (zones_of d) ≤ limit → is_ahead (key image d) best ≡ true
-fewer_ahead known image d limit None more sound few = refl
-fewer_ahead known image d limit (Some b) more sound few =
+fewer_ahead : (known : Known) (image : List ℕ) (besides : Option Candidate) (d : Candidate) (limit : ℕ)
+    (best : Option Best) → HasMore limit best
+    → IsSound known image besides best → faults image (zones_of d) ≤ limit → is_ahead (key image d) best ≡ true
+fewer_ahead known image besides d limit None more sound few = refl
+fewer_ahead known image besides d limit (Some b) more sound few =
     ap (λ k. is_before (key image d) k) sound.key_is ∙ fewer_faults (tally_of image d) (tally_of image b.candidate) d
     b.candidate (omega (arith, few, more, ap (λ (t : Tally). t.faults) sound.tally_is, tally_faults image d))
 
@@ -58,7 +59,7 @@ pub all_faulty : (known : Known) (image : List ℕ) (limit : ℕ) (best : Option
 all_faulty known image limit best more sound first d family = step (nat_le (faults image (zones_of d)) limit) refl
   where
     step : (b : Bool) → nat_le (faults image (zones_of d)) limit ≡ b → limit < faults image (zones_of d)
-    step true e = absurd (true≢false (sym (fewer_ahead known image d limit best more sound (leb-true _ _ e))
+    step true e = absurd (true≢false (sym (fewer_ahead known image None d limit best more sound (leb-true _ _ e))
         ∙ first d family (leb-true _ _ e)))
     step false e = leb-false _ _ e
 
@@ -202,7 +203,59 @@ partly known image old b o s kept given_up same so_far first usual other only = 
       (sym (ap (λ (o : Option Best). is_ahead (key image d) o) same) ∙ so_far d family walked few);
   first = λ e d family. sym (ap (λ k. is_before (key image d) k) kept.key_is)
       ∙ only_first known image b kept (only (of_not o e)) d family;
+  rival_is = tt;
   next = λ e d family differs few. only (of_not o e) d family differs;
+}
+
+-- ---- the rival
+
+-- of the best, only one with few faults is left
+pub few_sound : (known : Known) (image : List ℕ) (besides : Option Candidate) (limit : ℕ) (best : Option Best)
+    → IsSound known image besides best → IsSound known image besides (with_few limit best)
+few_sound known image besides limit None sound = sound
+few_sound known image besides limit (Some b) sound = step (nat_le b.tally.faults limit)
+  where
+    step : (x : Bool) → IsSound known image besides (if x then Some b else None)
+    step true = sound
+    step false = tt
+
+pub few_left : (limit : ℕ) (best : Option Best) → IfSome (with_few limit best) (λ (b : Best). b.tally.faults ≤ limit)
+few_left limit None = tt
+few_left limit (Some b) = step (nat_le b.tally.faults limit) refl
+  where
+    step : (x : Bool) → nat_le b.tally.faults limit ≡ x
+        → IfSome (if x then Some b else None) (λ (b : Best). b.tally.faults ≤ limit)
+    step true e = leb-true _ _ e
+    step false e = tt
+
+-- no layout with few faults comes after one with more
+pub few_first : (known : Known) (image : List ℕ) (besides : Option Candidate) (d : Candidate) (limit : ℕ)
+    (best : Option Best) → IsSound known image besides best → faults image (zones_of d) ≤ limit
+    → is_ahead (key image d) best ≡ false → is_ahead (key image d) (with_few limit best) ≡ false
+few_first known image besides d limit None sound few h = h
+few_first known image besides d limit (Some b) sound few h = step (nat_le b.tally.faults limit) refl
+  where
+    step : (x : Bool) → nat_le b.tally.faults limit ≡ x
+        → is_ahead (key image d) (if x then Some b else None) ≡ false
+    step true e = h
+    step false e =
+        absurd (true≢false (sym (fewer_ahead known image besides d limit (Some b) (leb-false _ _ e) sound few) ∙ h))
+
+rival_by : (known : Known) (image : List ℕ) (b : Best) (best : Option Best) → IsKept known image None b
+    → IsSound known image (Some b.candidate) best → IfSome best (λ (r : Best). r.tally.faults ≤ b.tally.faults)
+    → IfSome (option_map (λ (r : Best). r.candidate) best) (IsRival known image b.candidate)
+rival_by known image b None kept sound few = tt
+rival_by known image b (Some r) kept sound few = record {
+  of_family = sound.of_family;
+  differs = λ e. sound.other (ap Some e);
+  few = omega (
+    arith,
+    few,
+    ap (λ (t : Tally). t.faults) kept.tally_is,
+    ap (λ (t : Tally). t.faults) sound.tally_is,
+    tally_faults image b.candidate,
+    tally_faults image r.candidate,
+  );
 }
 
 -- the next one, or that there is none
@@ -214,18 +267,16 @@ next_is : (known : Known) (image : List ℕ) (b : Best) (best : Option Best) →
     (IsNext known image b.candidate)
 next_is known image b None kept sound all = λ d family differs few. true≢false (all d family differs
     (omega (arith, few, ap (λ (t : Tally). t.faults) kept.tally_is, tally_faults image b.candidate)))
-next_is known image b (Some r) kept sound all = record {
-  of_family = sound.of_family;
-  differs = λ e. sound.other (ap Some e);
-  next = λ d family differs few. sym (ap (λ k. is_before (key image d) k) sound.key_is) ∙ all d family differs
-      (omega (arith, few, ap (λ (t : Tally). t.faults) kept.tally_is, tally_faults image b.candidate));
-}
+next_is known image b (Some r) kept sound all = λ d family differs few.
+    sym (ap (λ k. is_before (key image d) k) sound.key_is) ∙ all d family differs
+    (omega (arith, few, ap (λ (t : Tally). t.faults) kept.tally_is, tally_faults image b.candidate))
 
 -- the whole answer
 pub wholly : (known : Known) (image : List ℕ) (b : Best) (best : Option Best) (whole : Bool) (s : Progress)
     → IsKept known image None b
     → ((d : Candidate) → is_of_family known image d ≡ true → is_before (key image d) b.key ≡ false)
     → IsSound known image (Some b.candidate) best
+    → IfSome best (λ (r : Best). r.tally.faults ≤ b.tally.faults)
     → (whole ≡ true → (d : Candidate) → is_of_family known image d ≡ true → b.candidate ≢ d
     → faults image (zones_of d) ≤ b.tally.faults → is_ahead (key image d) best ≡ false)
     → (whole ≡ false → MayGiveUp known image) → (IsOnly known image b.candidate → whole ≡ true)
@@ -238,7 +289,7 @@ pub wholly : (known : Known) (image : List ℕ) (b : Best) (best : Option Best) 
       limit = s.limit;
       reached = s.reached;
     })
-wholly known image b best whole s kept first sound all part only = record {
+wholly known image b best whole s kept first sound few all part only = record {
   of_family = kept.of_family;
   tally_is = kept.tally_is;
   taken_is = ap is_taken kept.tally_is;
@@ -248,6 +299,7 @@ wholly known image b best whole s kept first sound all part only = record {
       ∙ first d (usual_family known image d p two family);
   so_far = λ e d family walked few. sym (ap (λ k. is_before (key image d) k) kept.key_is) ∙ first d family;
   first = λ e d family. sym (ap (λ k. is_before (key image d) k) kept.key_is) ∙ first d family;
+  rival_is = rival_by known image b best kept sound few;
   next = λ e. next_is known image b best kept sound (all e);
 }
 

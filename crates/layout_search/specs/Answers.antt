@@ -1,6 +1,6 @@
 -- What a search answers
 use Rattle.std.specs.Prelude.{◌≡◌, ◌≢◌, ◌≤◌, ◌<◌, ℕ, Bool, true, false, ◌&&◌, is_some, List, [], ◌∷◌, length, Option, MatchOption, Some, ◌^◌}
-use Rattle.std.specs.Prelude.{unwrap_or}
+use Rattle.std.specs.Prelude.{unwrap_or, IfSome}
 use Rattle.layout_spec.specs.declared.Candidate.{Candidate}
 use Rattle.layout_spec.specs.declared.Known.{Known}
 use Rattle.layout_spec.specs.Family.{is_of_family, is_one_of}
@@ -10,12 +10,17 @@ use Rattle.layout_spec.specs.Taken.{is_taken}
 use Rattle.layout_search.specs.Walked.{is_walked, all_levels}
 use Rattle.layout_search.specs.declared.searching.Found.{Found}
 
--- another layout of the family has as few faults, and none of the others with as few is before it
-pub record IsNext (known : Known) (image : List ℕ) (c other : Candidate) : Type 0 where
+-- another layout of the family has as few faults
+pub record IsRival (known : Known) (image : List ℕ) (c other : Candidate) : Type 0 where
   pub of_family : is_of_family known image other ≡ true
   pub differs : c ≢ other
-  pub next : (d : Candidate) → is_of_family known image d ≡ true → c ≢ d
-      → faults image (zones_of d) ≤ faults image (zones_of c) → is_before (key image d) (key image other) ≡ false
+  pub few : faults image (zones_of other) ≤ faults image (zones_of c)
+
+-- none of the others with as few is before it
+abbrev pub IsNext : Known → List ℕ → Candidate → Candidate → Type 0
+IsNext known image c other =
+    (d : Candidate) → is_of_family known image d ≡ true → c ≢ d
+    → faults image (zones_of d) ≤ faults image (zones_of c) → is_before (key image d) (key image other) ≡ false
 
 -- no other layout of the family has as few faults
 abbrev pub IsAlone : Known → List ℕ → Candidate → Type 0
@@ -75,6 +80,7 @@ pub record IsAnswer (known : Known) (image : List ℕ) (f : Found) : Type 0 wher
   pub so_far : f.whole ≡ false → IsBestWalked known image f
   pub first : f.whole ≡ true → (d : Candidate) → is_of_family known image d ≡ true
       → is_before (key image d) (key image f.candidate) ≡ false
+  pub rival_is : IfSome f.rival (IsRival known image f.candidate)
   pub next : f.whole ≡ true → MatchOption f.rival (IsAlone known image f.candidate) (IsNext known image f.candidate)
 
 -- no layout is answered only where none agrees with what is known

@@ -1,5 +1,6 @@
 -- How far a search has come
-use Rattle.std.specs.Prelude.{◌≡◌, ◌≢◌, ℕ, ◌^◌, ◌<◌, ◌≤◌, Bool, true, false, List, length, Option, None, Some}
+use Rattle.std.specs.Prelude.{◌≡◌, ◌≢◌, ℕ, ◌^◌, ◌<◌, ◌≤◌, nat_le, Bool, true, false, if◌then◌else◌, List, length}
+use Rattle.std.specs.Prelude.{Option, None, Some}
 use Rattle.layout_spec.specs.declared.Candidate.{Candidate}
 use Rattle.layout_spec.specs.declared.Known.{Known}
 use Rattle.layout_spec.specs.Laid.{zones_of}
@@ -80,3 +81,8 @@ HasFew limit (Some b) = b.tally.faults ≤ limit
 abbrev pub HasMore : ℕ → Option Best → Type 0
 HasMore limit None = Unit {0}
 HasMore limit (Some b) = limit < b.tally.faults
+
+-- the best, if it has at most so many faults
+abbrev pub with_few : ℕ → Option Best → Option Best
+with_few limit None = None
+with_few limit (Some b) = if nat_le b.tally.faults limit then Some b else None

@@ -47,8 +47,8 @@ fn with(counts: &Counts, look: Look, size: u32) -> Counts
     }
 }
 
-/// The counts over the zones, or `None` if more than `most` do not fit. `looked` grows by what looking
-/// at their headers costs.
+/// The counts over the zones. `None` only if more than `most` do not fit. `looked` grows by what looking at their
+/// headers costs.
 pub fn count_zones(
     image: &[u8],
     zones: &[Zone],

@@ -21,5 +21,6 @@ mod trying;
 
 pub use laying::params;
 pub use layout_spec::{Candidate, Known, Tally};
+pub use looking::PLAIN_SIGNATURE;
 pub use marks::is_mark;
 pub use searching::{FEW, Found, search, search_within};

@@ -17,7 +17,8 @@ use prz_ecc::{HeaderReading, read_header};
 use rs_decode::{Decoded, Fix};
 use zone_spec::{Kind, Words, Zone};
 
-const PLAIN: u32 = 0x43474244;
+/// The signature of a header without a tag.
+pub const PLAIN_SIGNATURE: u32 = 0x4347_4244;
 
 /// The words of a header that can be read, and its corrected bytes.
 #[derive(Clone, Copy)]
@@ -214,6 +215,6 @@ pub fn tag_of(image: &[u8], zone: &Zone) -> Option<u32>
     let Some(header) = readable(image, zone) else {
         return None;
     };
-    let tag = PLAIN ^ header.words.sig;
+    let tag = PLAIN_SIGNATURE ^ header.words.sig;
     if is_tag(tag) { Some(tag) } else { None }
 }

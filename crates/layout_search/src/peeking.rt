@@ -9,6 +9,7 @@ ghost use Rattle.layout_spec.specs.Laid.{params_of};
 ghost use Rattle.layout_spec.specs.Marks.{fits};
 
 use crate::laying::{params, zones_of};
+use crate::looking::PLAIN_SIGNATURE;
 use crate::sights::{Sights, see};
 use layout_spec::Candidate;
 use ramoops_layout::rows::parity;
@@ -37,7 +38,7 @@ fn first_zone(c: &Candidate, size: u64) -> Zone
         cap: cap as u32,
         blocks: blocks as u32,
         parity: parity as u32,
-        sig: 0x43474244,
+        sig: PLAIN_SIGNATURE,
         block: 128,
         byte_order: c.byte_order,
     }

@@ -1,7 +1,7 @@
 // The search.
 ghost use Rattle.std.specs.Prelude.{◌≡◌, ◌≢◌, ◌<◌, ◌≤◌, ◌^◌, true, false, None, Some, length, option_map, IfOk, OnOk};
 ghost use Rattle.std.specs.Prelude.{ℕ, List, [], ◌∷◌};
-ghost use Rattle.std.specs.Prelude.{MatchOption};
+ghost use Rattle.std.specs.Prelude.{MatchOption, IfSome};
 ghost use Rattle.layout_spec.specs.declared.Candidate.{Candidate as CandidateValue};
 ghost use Rattle.layout_spec.specs.declared.Known.{Known as KnownValue};
 ghost use Rattle.layout_spec.specs.Family.{is_of_family, is_one_of};
@@ -10,6 +10,7 @@ ghost use Rattle.layout_spec.specs.Order.{key as key_of, faults, is_before as is
 ghost use Rattle.layout_search.specs.Placed.{AreLists};
 ghost use Rattle.layout_search.specs.Sights.{AreSeen};
 ghost use Rattle.layout_search.specs.Tried.{IsKept, IsSound, Advances, IsBestSoFar, HasFew, HasMore, is_ahead};
+ghost use Rattle.layout_search.specs.Tried.{with_few as with_few_by};
 ghost use Rattle.layout_search.specs.declared.progress.Best.{Best as BestValue};
 ghost use Rattle.layout_search.specs.declared.progress.Effort.TheVariants.{All};
 ghost use Rattle.layout_spec.specs.Laid.{zones_of};
@@ -44,7 +45,7 @@ pub struct Found {
     pub tally: Tally,
     /// Whether it explains the image well enough.
     pub taken: bool,
-    /// Another layout with as few faults: the first of them.
+    /// Another layout with as few faults. If the search came to its end, the first of them.
     pub rival: Option<Candidate>,
     /// Whether the search came to its end. If not, another layout may come first.
     pub whole: bool,
@@ -242,6 +243,22 @@ fn effort_beside(known: &Known, best: &Best) -> Effort
     }
 }
 
+/// The best, if it has at most so many faults.
+fn with_few(best: Option<Best>, limit: u64) -> Option<Best>
+    ensures { result ≡ with_few_by limit best }
+{
+    match best {
+        Some(best) => {
+            if best.tally.faults <= limit {
+                Some(best)
+            } else {
+                None
+            }
+        }
+        None => None,
+    }
+}
+
 /// Finds the first layout of those that have at most as many faults as the best, but for that one.
 fn find_rival(
     alloc: Global,
@@ -263,6 +280,7 @@ fn find_rival(
     requires work { 0 < work }
     ensures seen { OnOk result (AreSeen image.now sights.new) }
     ensures sound { IfOk result (λ state. IsSound known.now image.now (Some best.now.candidate) state.best) }
+    ensures few { IfOk result (λ state. IfSome state.best (λ (b : BestValue). b.tally.faults ≤ best.now.tally.faults)) }
     ensures settled { IfOk result (λ state. 0 < state.work → (d : CandidateValue)
         → is_of_family known.now image.now d ≡ true → best.now.candidate ≢ d
         → faults image.now (zones_of d) ≤ best.now.tally.faults
@@ -276,6 +294,7 @@ fn find_rival(
         besides: Some(best.candidate),
     };
     sweep(alloc, image, known, lists, &aim, sights, &mut state)?;
+    state.best = with_few(state.best, best.tally.faults);
     Ok(state)
 }
 

@@ -43,7 +43,7 @@ fn better(this: Best, best: Option<Best>) -> Option<Best>
     }
 }
 
-/// The better of the best so far and a candidate with these zones, if that has few enough faults.
+/// The better of the best so far and a candidate with these zones. One with too many faults may be passed by.
 fn judge(
     image: &[u8],
     aim: &Aim,

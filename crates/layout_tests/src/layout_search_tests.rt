@@ -242,6 +242,24 @@ fn the_only_layout_is_told(rt: HostRuntime) -> Result<(), Fail> {
     Ok(())
 }
 
+// A layout with more faults is no rival: without parity the last header, which has a wrong letter, is no zone's.
+#[test]
+fn more_faults_make_no_rival(rt: HostRuntime) -> Result<(), Fail> {
+    let mut image = zones(rt.alloc(), 1, 512, &FRESH_PARITY)?;
+    add_zone(&mut image, b"DBGX", 512, &FRESH_PARITY)?;
+    let known = Known {
+        dump: Some(0),
+        console: Some(512),
+        ftrace: Some(0),
+        pmsg: Some(512),
+        ..Known::default()
+    };
+    let found = search(rt.alloc(), &image, &known)?.ok_or("none")?;
+    assert_eq!(rt; (found.candidate.parity, found.tally.faults), (16, 0));
+    assert!(rt; found.whole && found.rival.is_none());
+    Ok(())
+}
+
 // Nothing is a header, or text is full of the signature: no layout is taken.
 #[test]
 fn what_no_one_can_read_is_refused(rt: HostRuntime) -> Result<(), Fail> {

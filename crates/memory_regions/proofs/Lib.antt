@@ -2,3 +2,4 @@ mod ReadWithin
 pub mod PageMarks
 pub mod NextPiece
 mod FromFront
+mod EndsWithin

@@ -1,8 +1,7 @@
 -- The marked pages of two pieces of a memory are those of the first and those of the second further on. For
 -- `add_marked` and `marked_pages`.
-use Rattle.std.proofs.Common.{◌≡◌, ◌∙◌, ℕ, zero, suc, ◌+◌, ◌*◌, ◌/◌, ◌<◌, ◌≤◌, Bool, true, false, cond, List, [], ◌∷◌}
+use Rattle.std.proofs.Common.{◌≡◌, ◌∙◌, ℕ, zero, suc, ◌+◌, ◌*◌, ◌<◌, ◌≤◌, Bool, true, false, cond, List, [], ◌∷◌}
 use Rattle.std.proofs.Common.{◌++◌, length, map, refl, sym, ap, ap₂, arith, length-append, append_assoc}
-use Rattle.std.proofs.Common.{add_assoc, ◌%◌, min}
 use Rattle.std.specs.Prelude.{slice_index, ◌-◌, ◌==◌, ◌&&◌, ◌||◌, nat_le}
 use Rattle.std.specs.List.{range_with_len, filter}
 use Rattle.std.proofs.lemmas.List.{get_or_append_left, get_or-append-add}
@@ -125,10 +124,7 @@ rest_same xs ys k i len = mark_same (xs ++ ys) ys (4096 * (k + i)) (4096 * i)
     ∙ get_or-append-add xs ys (4096 * i + j) 0)
 
 pages_add : (k n : ℕ) → pages (4096 * k + n) ≡ k + pages n
-pages_add k n =
-    let q : (4096 * k + n) / 4096 ≡ k + n / 4096 = omega arith in
-    let r : (4096 * k + n) % 4096 ≡ n % 4096 = omega arith in
-    ap₂ (λ (a b : ℕ). a + min 1 b) q r ∙ add_assoc k (n / 4096) (min 1 (n % 4096))
+pages_add k n = omega arith
 
 pub marked-append : (xs ys : List ℕ) (k : ℕ) → length xs ≡ 4096 * k
     → marked (xs ++ ys) ≡ marked xs ++ map (λ i. k + i) (marked ys)

@@ -6,7 +6,6 @@ ghost use Rattle.memory_regions.specs.declared.choosing.Reading.{Reading as Read
 ghost use Rattle.memory_regions.specs.Choice.{IsReading, AreReadings, is_explained, is_first, is_better, better};
 ghost use Rattle.memory_regions.specs.Choice.{best_from, has_few, is_rival};
 
-use crate::pages::add_marked;
 use crate::sizes::sizes;
 use layout_search::{Found, Known, Tally, search};
 use std::alloc::{AllocError, Global};
@@ -142,9 +141,7 @@ fn read_sizes(
 pub fn readings(alloc: Global, known: &Known, bytes: &[u8]) -> Result<Vec<Reading>, AllocError>
     ensures { IfOk result (λ list. AreReadings known.now bytes.now list.items) }
 {
-    let mut pages = Vec::new(alloc);
-    add_marked(&mut pages, bytes, 0)?;
-    let sizes = sizes(alloc, known.mem, bytes.len() as u64, &pages)?;
+    let sizes = sizes(alloc, known.mem, bytes)?;
     let list = read_sizes(alloc, known, bytes, &sizes)?;
     Ok(list)
 }

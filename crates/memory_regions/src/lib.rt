@@ -5,6 +5,7 @@
 mod choosing;
 mod pages;
 mod part;
+mod rings;
 mod sizes;
 
 pub use choosing::{Reading, best, larger, readings};

@@ -39,13 +39,13 @@ pub trait Watch {
     fn reached(&mut self, done: u64, all: u64);
 }
 
-/// Adds the numbers of a piece's marked pages, the first page of which is `first`.
+/// Adds the numbers of a piece's marked pages, the first page of which is `first`. A header that is cut is none.
 #[tactic(auto, unfolding(memory_spec::specs::Pages::marked))]
 pub(crate) fn add_marked(pages: &mut Vec<u64>, piece: &[u8], first: u64) -> Result<(), AllocError>
     requires { first < 2 ^ 53 }
     ensures { OnOk result (pages.new.items ≡ pages.old.items ++ map (λ page. first + page) (marked piece.now)) }
 {
-    for page in 0..piece.len().div_ceil(PAGE) {
+    for page in 0..piece.len().saturating_sub(11).div_ceil(PAGE) {
         if is_mark(piece, PAGE * page) {
             pages.push(first + page as u64)?;
         }

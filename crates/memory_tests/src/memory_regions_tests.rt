@@ -18,6 +18,8 @@ const BIG_FRESH_PARITY: [u8; 16] = [
 
 const PAGE: usize = 4096;
 
+const MARK: &[u8] = b"DBGC";
+
 #[derive(Drop)]
 struct Nobody;
 
@@ -50,6 +52,41 @@ fn memory_of(
     Ok(memory)
 }
 
+// A zone that begins with these bytes, and zeros.
+fn add_zone(memory: &mut Vec<u8>, front: &[u8], size: usize) -> Result<(), AllocError> {
+    let end = memory.len().saturating_add(size);
+    memory.extend_from_slice(front)?;
+    memory.resize(end, 0)
+}
+
+// Three dumps of 5,376 bytes, as a kernel makes them of 16,128, and a console of 256: only the first begins at a page.
+fn uneven_memory(alloc: Global, fronts: &[&[u8]; 4]) -> Result<Vec<u8>, AllocError> {
+    let mut memory = Vec::new(alloc);
+    add_zone(&mut memory, fronts[0], 5_376)?;
+    add_zone(&mut memory, fronts[1], 5_376)?;
+    add_zone(&mut memory, fronts[2], 5_376)?;
+    add_zone(&mut memory, fronts[3], 256)?;
+    Ok(memory)
+}
+
+// The sizes that were read, and the best.
+fn sizes_read(
+    alloc: Global,
+    known: &Known,
+    bytes: &[u8],
+) -> Result<(Vec<u64>, Option<u64>), AllocError> {
+    let readings = readings(alloc, known, bytes)?;
+    let mut sizes = Vec::new(alloc);
+    for reading in &readings {
+        sizes.push(reading.size)?;
+    }
+    let first = match best(&readings) {
+        Some(reading) => Some(reading.size),
+        None => None,
+    };
+    Ok((sizes, first))
+}
+
 fn memory(alloc: Global, zones: usize) -> Result<Vec<u8>, AllocError> {
     memory_of(alloc, zones, b"DBGC", &FRESH_PARITY)
 }
@@ -76,6 +113,25 @@ fn pages_of_zones(rt: HostRuntime) -> Result<(), Fail> {
     match marked_pages(rt.alloc(), &mut store, &mut Nobody) {
         Ok(pages) => assert_eq!(rt; pages.as_slice(), [1, 2, 3, 4].as_slice()),
         Err(_) => return Err("unread".into()),
+    }
+    Ok(())
+}
+
+// A header at the very end counts if it is whole.
+#[test]
+fn a_cut_header_is_none(rt: HostRuntime) -> Result<(), Fail> {
+    for (header, count) in [
+        (b"DB".as_slice(), 0),
+        (b"DBGC\0\0\0\0\0\0\0\0".as_slice(), 1),
+    ] {
+        let mut bytes = Vec::new(rt.alloc());
+        add_zone(&mut bytes, &[], PAGE)?;
+        bytes.extend_from_slice(header)?;
+        let mut store = store(rt.alloc(), bytes, &[])?;
+        match marked_pages(rt.alloc(), &mut store, &mut Nobody) {
+            Ok(pages) => assert!(rt; pages.len() == count),
+            Err(_) => return Err("unread".into()),
+        }
     }
     Ok(())
 }
@@ -147,5 +203,64 @@ fn a_part_is_a_file(rt: HostRuntime) -> Result<(), Fail> {
     assert_eq!(rt; front.as_slice(), b"DBGC\0".as_slice());
     let inner = store(rt.alloc(), memory(rt.alloc(), 1)?, &[])?;
     assert!(rt; part(inner, 4097, 8192).is_none());
+    Ok(())
+}
+
+const UNEVEN: Known = Known {
+    mem: None,
+    dump: Some(4096),
+    console: Some(256),
+    ftrace: Some(0),
+    pmsg: Some(0),
+    parity: Some(0),
+    cpus: None,
+    tag: None,
+    order: None,
+    byte_order: None,
+};
+
+// Zones need not begin at a page: their headers tell of the size all the same.
+#[test]
+fn zones_that_begin_at_no_page(rt: HostRuntime) -> Result<(), Fail> {
+    let bytes = uneven_memory(rt.alloc(), &[MARK, MARK, MARK, MARK])?;
+    let mut store = store(rt.alloc(), Vec::from_slice(rt.alloc(), &bytes)?, &[])?;
+    match marked_pages(rt.alloc(), &mut store, &mut Nobody) {
+        Ok(pages) => assert!(rt; pages.as_slice() == [0].as_slice()),
+        Err(_) => return Err("unread".into()),
+    }
+    let (sizes, first) = sizes_read(rt.alloc(), &UNEVEN, &bytes)?;
+    assert!(rt; sizes.as_slice() == [4096, 8192, 16384].as_slice());
+    assert!(rt; first == Some(16384));
+    Ok(())
+}
+
+// The one header in the second half has a start above its size, or a damaged signature, or both.
+#[test]
+fn damaged_headers_at_no_page(rt: HostRuntime) -> Result<(), Fail> {
+    for (console, sizes) in [
+        (b"DBGC\x09".as_slice(), [4096, 8192, 16384].as_slice()),
+        (b"DxxC".as_slice(), [4096, 8192, 16384].as_slice()),
+        (b"DxxC\x09".as_slice(), [4096, 8192].as_slice()),
+    ] {
+        let bytes = uneven_memory(rt.alloc(), &[MARK, MARK, &[], console])?;
+        let (read, _) = sizes_read(rt.alloc(), &UNEVEN, &bytes)?;
+        assert!(rt; read.as_slice() == sizes);
+    }
+    Ok(())
+}
+
+// A zone that begins in the first half and whose ring ends in the second: 20,000 bytes of a console of 64 KiB.
+#[test]
+fn a_ring_beyond_the_half(rt: HostRuntime) -> Result<(), Fail> {
+    let known = Known {
+        console: None,
+        dump: Some(0),
+        ..UNEVEN
+    };
+    let mut bytes = Vec::new(rt.alloc());
+    add_zone(&mut bytes, b"DBGC\x20\x4e\0\0\x20\x4e\0\0", 65_536)?;
+    let (sizes, first) = sizes_read(rt.alloc(), &known, &bytes)?;
+    assert!(rt; sizes.as_slice() == [4096, 32768].as_slice());
+    assert!(rt; first == Some(32768));
     Ok(())
 }

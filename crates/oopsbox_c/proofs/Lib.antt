@@ -8,6 +8,7 @@ pub mod Back
 pub mod Begun
 pub mod WholeCalls
 pub mod NextStores
+pub mod LeftStores
 pub mod WholeAnswer
 pub mod FlightAnswer
 pub mod Blocks

@@ -2,16 +2,27 @@
 use Rattle.std.proofs.Common.{◌≡◌, ℕ, ◌+◌, ◌<◌, List, [], ◌∷◌, ◌++◌, length, take, drop, set, refl, sym, ap, ap₂, ◌∙◌}
 use Rattle.std.proofs.Common.{subst, arith, length-append, append-nil, inl, inr}
 use Rattle.std.specs.List.{flat_map, AllByRecursion}
-use Rattle.std.proofs.lemmas.List.{drop-drop, take_more_set}
+use Rattle.std.proofs.lemmas.List.{drop-drop, take_more_set, length-take}
 use Rattle.std.proofs.lemmas.Grind.{flat_map-append}
 use Rattle.std.proofs.Math.Seq.{take-add}
 use Rattle.list_laws.proofs.Elements.{AllByRecursion-append}
 use Rattle.zone_spec.specs.declared.Zone.{Zone}
+use Rattle.zone_spec.specs.declared.params.ByteOrder.{ByteOrder}
 use Rattle.zone_spec.specs.Told.{Call}
 use Rattle.zone_spec.specs.Parts.{AreBytes}
-use Rattle.zone_spec.specs.Stores.{Store, after_stores}
+use Rattle.zone_spec.specs.Stores.{Store, after_stores, byte_stores}
 use Rattle.zone_spec.specs.Calls.{call_stores}
 use Rattle.ring_laws.proofs.Images.{after_stores-append}
+use Rattle.ring_laws.proofs.StoreCounts.{length-byte_stores}
+use Rattle.zone_boot.specs.declared.handing.BootStore.{BootStore}
+use Rattle.zone_boot.specs.declared.handing.Given.{Given as BootGiven}
+use Rattle.zone_boot.specs.declared.handing.Given.TheVariants.{Word as BootWord, Bytes as BootBytes}
+use Rattle.zone_boot.specs.declared.handing.Given.TheVariants.{Nothing as BootNothing}
+use Rattle.zone_boot.specs.Handed.{handed_by as boot_handed_by, len_by, handed_len, IsPlain}
+use Rattle.store_steps.specs.declared.store.Given.{Given}
+use Rattle.store_steps.specs.declared.store.Given.TheVariants.{Word, Line, Payload, Parity, Nothing}
+use Rattle.store_steps.specs.declared.store.Store.{Store as Handed}
+use Rattle.store_steps.specs.Handed.{handed_by, handed_count, IsWithinBytes, IsInside}
 use Rattle.store_steps.specs.declared.steps.Steps.{Steps}
 use Rattle.store_steps.specs.Calls.{call_of}
 use Rattle.store_steps.specs.Flying.{Flying, flying, IsSameCall}
@@ -41,6 +52,45 @@ all_more P rows i n row e within h k =
     subst (λ m. AllByRecursion P (take m (set rows i row))) (sym e)
     (subst (AllByRecursion P) (sym (take_more_set rows i row within))
     (AllByRecursion-append P (take i rows) (row ∷ []) h (k, tt)))
+
+-- what is handed out has a byte at least, if it is a store at all
+pub len_some : (size : ℕ) (s : Handed) (line payload : List ℕ) → IsInside size s line payload
+    → 0 < handed_count s line payload → 0 < s.len
+len_some size s line payload inside some = by s.given inside.bytes some
+  where
+    by : (g : Given) → IsWithinBytes g s line payload → 0 < length (handed_by g s line payload) → 0 < s.len
+    by Word w h = omega (arith, w)
+    by Line w h = omega (
+      arith,
+      h,
+      length-byte_stores s.place (take s.len (drop s.from line)),
+      length-take s.len (drop s.from line),
+    )
+    by Payload w h = omega (
+      arith,
+      h,
+      length-byte_stores s.place (take s.len (drop s.from payload)),
+      length-take s.len (drop s.from payload),
+    )
+    by Parity w h = omega (
+      arith,
+      h,
+      length-byte_stores s.place (take s.len (drop s.from s.parity.items)),
+      length-take s.len (drop s.from s.parity.items),
+    )
+    by Nothing w h = absurd (omega (arith, h))
+
+-- and so of a boot
+boot_some_by : (g : BootGiven) (order : ByteOrder) (place word : ℕ) (bytes : List ℕ)
+    → (boot_handed_by g order place word bytes ≡ [] → g ≡ BootNothing) → (g ≡ BootNothing → ⊥) → 0 < len_by g bytes
+unfolding byte_stores
+boot_some_by BootWord order place word bytes h some = omega arith
+boot_some_by BootBytes order place word [] h some = absurd (some (h refl))
+boot_some_by BootBytes order place word (b ∷ bs) h some = omega arith
+boot_some_by BootNothing order place word bytes h some = absurd (some refl)
+
+pub boot_some : (s : BootStore) → IsPlain s → (s.given ≡ BootNothing → ⊥) → 0 < handed_len s
+boot_some s plain some = boot_some_by s.given s.byte_order s.place s.word s.bytes.items plain.1 some
 
 -- ---- the next stores behind those that were taken
 

@@ -1,6 +1,6 @@
 -- What is handed out from a flight on, end to end
-use Rattle.std.proofs.Common.{◌≡◌, ℕ, ◌+◌, ◌≤◌, List, [], ◌∷◌, ◌++◌, length, take, drop, sym, ap, ap₂, ◌∙◌, arith}
-use Rattle.std.proofs.Common.{append-nil, length-drop}
+use Rattle.std.proofs.Common.{◌≡◌, ℕ, ◌+◌, ◌≤◌, List, [], ◌∷◌, ◌++◌, length, take, drop, refl, sym, ap, ap₂, ◌∙◌}
+use Rattle.std.proofs.Common.{arith, append-nil, length-drop}
 use Rattle.std.proofs.lemmas.List.{take_all, drop-drop, take-append-drop}
 use Rattle.zone_spec.specs.declared.Zone.{Zone}
 use Rattle.zone_spec.specs.declared.CallKind.{CallKind}
@@ -8,13 +8,16 @@ use Rattle.zone_spec.specs.Told.{Call}
 use Rattle.zone_spec.specs.Stores.{Store, after_stores}
 use Rattle.zone_spec.specs.Calls.{call_stores}
 use Rattle.store_steps.specs.Calls.{call_of}
-use Rattle.store_steps.specs.Machine.{StandsFor}
+use Rattle.store_steps.specs.Machine.{IsAlike, StandsFor}
 use Rattle.oopsbox_c.specs.declared.flights.Flight.{Flight}
 use Rattle.oopsbox_c.specs.Numbers.{call_in}
 use Rattle.oopsbox_c.specs.Places.{zone_in}
 use Rattle.oopsbox_c.specs.Stores.{stores_in}
 use Rattle.oopsbox_c.specs.Flights.{flight_in, IsNext}
 use Rattle.oopsbox_c.specs.WholeFlights.{Answer, AreAnswers, EndsFinished, stores_of, FlightsAreWhole}
+
+itself : (f : Flight) (now line payload : List ℕ) → IsAlike (flight_in f line payload) now now
+itself f now line payload = record { bytes = λ h. h; parity = λ _. refl }
 
 -- the answer's stores among all
 next_of : (f : Flight) (a : Answer) (now before line payload : List ℕ) (z : Zone) (call : Call)
@@ -23,7 +26,7 @@ next_of : (f : Flight) (a : Answer) (now before line payload : List ℕ) (z : Zo
     → stores_in a.stores line payload ≡ take (length (stores_in a.stores line payload))
     (drop f.made (call_stores z call before))
 next_of f a now before line payload z call ez ec stands next =
-    next.handed before stands
+    next.handed now before (itself f now line payload) stands
     ∙ ap₂ (λ (y : Zone) (c : Call). take (length (stores_in a.stores line payload))
     (drop f.made (call_stores y c before))) ez ec
 
@@ -45,7 +48,8 @@ whole_from f now before line payload z call (a ∷ b ∷ answers) ez ec stands h
     let all : List Store = call_stores z call before in
     let xs : List Store = stores_in a.stores line payload in
     let rest = whole_from a.flight (after_stores now xs) before line payload z call (b ∷ answers)
-    (ap zone_in h.0.zone ∙ ez) (h.0.same.call ∙ ec) (h.0.stands before stands) h.1 end in
+    (ap zone_in h.0.zone ∙ ez) (h.0.same.call ∙ ec)
+    (h.0.stands now before (itself f now line payload) stands) h.1 end in
     ap₂ (λ (u v : List Store). u ++ v) (next_of f a now before line payload z call ez ec stands h.0)
     (rest ∙ ap (λ (k : ℕ). drop k all) h.0.made)
     ∙ ap (λ (v : List Store). take (length xs) (drop f.made all) ++ v) (sym (drop-drop (length xs) f.made all))

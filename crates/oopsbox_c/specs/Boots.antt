@@ -1,9 +1,10 @@
 -- What the calls on a boot answer
-use Rattle.std.specs.Prelude.{◌≡◌, ℕ, ◌+◌, ◌<◌, ◌≤◌, ◌↔◌, List, [], length, take, drop}
+use Rattle.std.specs.Prelude.{◌≡◌, ℕ, ◌+◌, ◌<◌, ◌≤◌, ◌↔◌, List, [], ◌++◌, length, take, drop}
 use Rattle.zone_spec.specs.Stores.{Store, after_stores}
 use Rattle.zone_spec.specs.Boot.{boot_stores}
 use Rattle.zone_boot.specs.declared.boots.Boot.{Boot}
-use Rattle.zone_boot.specs.Booting.{IsKept, IsBooting}
+use Rattle.zone_boot.specs.declared.boots.Phase.TheVariants.{Finished}
+use Rattle.zone_boot.specs.Booting.{left_of, IsKept, IsBooting}
 use Rattle.oopsbox_c.specs.BootNumbers.{phase_in, erasure_in}
 use Rattle.oopsbox_c.specs.Places.{zone_in, IsPlace}
 use Rattle.oopsbox_c.specs.Stores.{stores_in, AreInside, AreOfBoot}
@@ -74,6 +75,14 @@ pub record IsBootNext (b g : ZoneBoot) (image : List ℕ) (out : Stores) : Type 
   pub finished : (before : List ℕ) → IsBooting (boot_in b) before image
       → (out.is_last ≡ 1) ↔ (b.made ≡ length (boot_stores (zone_in b.zone) before))
   pub flag : out.is_last ≤ 1
+  -- whatever the image is: the stores are the next of those that are left, only the last answer has none, and with it
+  -- the boot is finished
+  pub left : left_of (boot_in b) image
+      ≡ boot_stores_in out ++ left_of (boot_in g) (after_stores image (boot_stores_in out))
+  pub last : (out.is_last ≡ 1) ↔ (boot_stores_in out ≡ [])
+  pub none : out.is_last ≡ 1 → out.count ≡ 0
+  pub none_left : out.is_last ≡ 1 → left_of (boot_in b) image ≡ []
+  pub ends : out.is_last ≡ 1 → (boot_in g).phase ≡ Finished
 
 abbrev pub BootNextEnds : End → ZoneBoot → ZoneBoot → List ℕ → Stores → Stores → Type 0
 BootNextEnds Done b g image old new = CanBootOn b image × IsBootNext b g image new

@@ -1,5 +1,5 @@
 -- What the calls on a flight answer
-use Rattle.std.specs.Prelude.{◌≡◌, ℕ, ◌+◌, ◌<◌, ◌≤◌, ◌↔◌, ◌⊎◌, List, [], length, take, drop}
+use Rattle.std.specs.Prelude.{◌≡◌, ℕ, ◌+◌, ◌<◌, ◌≤◌, ◌↔◌, ◌⊎◌, List, [], ◌++◌, length, take, drop}
 use Rattle.zone_spec.specs.declared.CallKind.{CallKind}
 use Rattle.zone_spec.specs.declared.CallKind.TheVariants.{Append}
 use Rattle.zone_spec.specs.declared.Zone.{Zone}
@@ -11,7 +11,7 @@ use Rattle.zone_spec.specs.Calls.{call_stores}
 use Rattle.store_steps.specs.declared.steps.Steps.{Steps}
 use Rattle.store_steps.specs.Calls.{call_of, IsOpenFor}
 use Rattle.store_steps.specs.Flying.{Flying, flying, IsSameCall}
-use Rattle.store_steps.specs.Machine.{IsKept, IsParity, StandsFor}
+use Rattle.store_steps.specs.Machine.{IsKept, IsParity, IsAlike, StandsFor, stores_left}
 use Rattle.store_steps.specs.Counts.{total_of}
 use Rattle.oopsbox_c.specs.Numbers.{call_in, leg_in, phase_in}
 use Rattle.oopsbox_c.specs.Places.{zone_in, IsPlace}
@@ -108,32 +108,40 @@ pub record IsNext (f g : Flight) (image line payload : List ℕ) (most : ℕ) (o
   pub at_most : length (stores_in out line payload) ≤ most
   pub some : f.made < total_of (flight_in f line payload) → 0 < length (stores_in out line payload)
   pub inside : AreInside f.zone.size out line payload
-  pub handed : (before : List ℕ) → StandsFor (flight_in f line payload) image before
+  pub handed : (now before : List ℕ) → IsAlike (flight_in f line payload) image now
+      → StandsFor (flight_in f line payload) now before
       → stores_in out line payload ≡ take (length (stores_in out line payload))
       (drop f.made (call_stores (zone_in f.zone) (call_of (call_in f.kind) line payload) before))
-  pub stands : (before : List ℕ) → StandsFor (flight_in f line payload) image before
-      → StandsFor (flight_in g line payload) (after_stores image (stores_in out line payload)) before
+  pub stands : (now before : List ℕ) → IsAlike (flight_in f line payload) image now
+      → StandsFor (flight_in f line payload) now before
+      → StandsFor (flight_in g line payload) (after_stores now (stores_in out line payload)) before
   pub none : f.made ≡ total_of (flight_in f line payload) → out.count ≡ 0
   pub is_last : (out.is_last ≡ 1) ↔ (g.made ≡ total_of (flight_in f line payload))
   pub flag : out.is_last ≤ 1
   pub stops : (most ≤ length (stores_in out line payload)) ⊎ (out.count ≡ 4) ⊎ IsParity (phase_in g.phase)
       ⊎ (out.is_last ≡ 1)
 
+-- and whatever the zone's bytes are: the stores are the next of those that the flight leaves on them
+abbrev pub ComesNext : Flight → Flight → List ℕ → List ℕ → List ℕ → Stores → Type 0
+ComesNext f g image line payload out = stores_left (flight_in f line payload) image ≡ stores_in out line payload
+    ++ stores_left (flight_in g line payload) (after_stores image (stores_in out line payload))
+
 abbrev pub NextEnds : End → Flight → Flight → List ℕ → List ℕ → List ℕ → List TableRow → ℕ → Stores → Stores
     → Type 0
 NextEnds Done f g image line payload table most old new = CanGoOn f image line payload table most
-    × IsNext f g image line payload most new
+    × IsNext f g image line payload most new × ComesNext f g image line payload new
 NextEnds Argument f g image line payload table most old new = (¬ (CanGoOn f image line payload table most))
     × (g ≡ f) × (new ≡ old)
 NextEnds other f g image line payload table most old new = ⊥
 
 -- ---- an append, with its first stores in the same answer
 
--- as many as there are: up to the first parity, or all
+-- as many as there are: up to the first parity, or, without parity, all
 pub record IsAppended (place : ZonePlace) (image payload : List ℕ) (f : Flight) (out : Stores) : Type 0 where
   pub begun : Flight
   pub is_begun : IsBegun place Append image [] payload begun
   pub is_next : IsNext begun f image [] payload 4_294_967_295 out
+  pub whole : place.parity ≡ 0 → out.is_last ≡ 1
 
 abbrev pub AppendEnds : End → ZonePlace → List ℕ → List ℕ → Flight → Flight → Stores → Stores → Type 0
 AppendEnds Done place image payload f g old new = IsAppended place image payload g new

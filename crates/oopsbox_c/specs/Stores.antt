@@ -1,5 +1,5 @@
 -- The stores of the definitions that stores as C sees them stand for
-use Rattle.std.specs.Prelude.{ℕ, ◌≡◌, ◌+◌, ◌≤◌, ◌⊎◌, List, [], ◌∷◌, if◌then◌else◌, ◌==◌, length, take, drop}
+use Rattle.std.specs.Prelude.{ℕ, ◌≡◌, ◌+◌, ◌<◌, ◌≤◌, ◌⊎◌, List, [], ◌∷◌, if◌then◌else◌, ◌==◌, length, take, drop}
 use Rattle.std.specs.List.{flat_map, AllByRecursion}
 use Rattle.std.proofs.Common.{w32}
 use Rattle.zone_spec.specs.Stores.{Store, byte_stores}
@@ -20,9 +20,10 @@ row_stores s line payload =
 abbrev pub stores_in : Stores → List ℕ → List ℕ → List Store
 stores_in s line payload = flat_map (λ (row : StoreRow). row_stores row line payload) (take s.count s.stores)
 
--- within a zone of so many bytes, and within the bytes that are lent or given
+-- at least one byte, within a zone of so many, and within the bytes that are lent or given
 pub record IsRowInside (size : ℕ) (s : StoreRow) (line payload : List ℕ) : Type 0 where
   pub what : s.what ≤ 3
+  pub some : 0 < s.len
   pub place : s.place + s.len ≤ size
   pub word : s.what ≡ 0 → (s.len ≡ 4) × (take 4 s.bytes ≡ to_le_bytes w32 s.word)
   pub line_end : s.what ≡ 1 → s.from + s.len ≤ length line

@@ -1,16 +1,18 @@
 // Calls on a zone, in structs of the caller's. They take no memory.
 ghost use Rattle.std.specs.Prelude.{◌≡◌, ◌+◌, ◌^◌, ◌≤◌, ◌↔◌, ◌⊎◌, ◌<◌, [], List, ℕ, length, IsTrue};
 ghost use Rattle.zone_spec.specs.Parts.{standing_words};
+ghost use Rattle.zone_spec.specs.Stores.{Store as DefinedStore};
 ghost use Rattle.rs_encode.specs.Lanes.{IsLent};
 ghost use Rattle.store_steps.specs.Flying.{Flying, flying};
-ghost use Rattle.store_steps.specs.Machine.{IsKept, IsParity};
+ghost use Rattle.store_steps.specs.Machine.{IsKept, IsParity, IsSameData};
 ghost use Rattle.store_steps.specs.declared.place.Phase.TheVariants.{Finished};
-ghost use Rattle.oopsbox_c.specs.Gathered.{IsGathered, HasGone};
+ghost use Rattle.oopsbox_c.specs.Gathered.{IsGathered, IsComing, HasGone};
 ghost use Rattle.oopsbox_c.specs.Ends.{status_of};
 ghost use Rattle.oopsbox_c.specs.Numbers.{call_in};
 ghost use Rattle.oopsbox_c.specs.Places.{zone_in};
 ghost use Rattle.oopsbox_c.specs.Tables.{IsOwed, IsLendable};
-ghost use Rattle.oopsbox_c.specs.Flights.{steps_of, IsFlight, BeginEnds, IsAsked, IsNext, NextEnds, AppendEnds};
+ghost use Rattle.oopsbox_c.specs.Flights.{steps_of, IsFlight, BeginEnds, IsAsked, IsNext, ComesNext, NextEnds};
+ghost use Rattle.oopsbox_c.specs.Flights.{AppendEnds};
 ghost use Rattle.zone_spec.specs.declared.CallKind.TheVariants.{Append, Erase, Dump};
 
 use crate::End;
@@ -204,8 +206,12 @@ fn take_parities(
     requires empty { stores.old.count ≡ 0 }
     requires near { until < steps.old.made + 2 ^ 32 }
     requires most { steps.old.made ≤ until }
-    ensures gathered { (f : Flying) → IsGathered f image.now line.now payload.now steps.old stores.old
-        → IsGathered f image.now line.now payload.now steps.new stores.new }
+    ensures gathered { (f : Flying) (now : List ℕ) → IsSameData steps.old.zone now image.now
+        → IsGathered f now line.now payload.now steps.old stores.old
+        → IsGathered f now line.now payload.now steps.new stores.new }
+    ensures coming { (all : List DefinedStore) → IsComing all image.now line.now payload.now steps.old stores.old
+        → IsComing all image.now line.now payload.now steps.new stores.new }
+    ensures idle { (IsParity steps.old.place.phase → ⊥) → (steps.new ≡ steps.old) × (stores.new ≡ stores.old) }
     ensures kept { IsKept (flying steps.new line.now payload.now) }
     ensures room { stores.new.count ≤ 4 }
     ensures most { steps.new.made ≤ until }
@@ -230,6 +236,9 @@ fn take_data(steps: &mut Steps, line: &[u8], payload: &[u8], until: u64, stores:
     requires room { stores.old.count ≤ 4 }
     ensures gathered { (f : Flying) (image : List ℕ) → IsGathered f image line.now payload.now steps.old stores.old
         → IsGathered f image line.now payload.now steps.new stores.new }
+    ensures coming { (all : List DefinedStore) (image : List ℕ)
+        → IsComing all image line.now payload.now steps.old stores.old
+        → IsComing all image line.now payload.now steps.new stores.new }
     ensures most { steps.new.made ≤ until }
     ensures later { HasGone steps.old steps.new stores.old stores.new }
     ensures some { (IsParity steps.old.place.phase → ⊥) → (steps.old.place.phase ≡ Finished → ⊥)
@@ -267,7 +276,8 @@ fn go_on(
     requires len { length image.now ≡ flight.old.zone.size }
     requires table { IsLent flight.old.zone.parity rows.now }
     requires some { 0 < most }
-    ensures { IsNext flight.old flight.new image.now line.now payload.now most stores.new }
+    ensures next { IsNext flight.old flight.new image.now line.now payload.now most stores.new }
+    ensures coming { ComesNext flight.old flight.new image.now line.now payload.now stores.new }
 {
     let mut steps = steps_of(flight);
     let until = steps.made + most as u64;
@@ -295,7 +305,8 @@ fn go_on_by(
     requires lendable { IsLendable table.now }
     requires table { IsOwed flight.old.zone.parity table.now }
     requires some { 0 < most }
-    ensures { IsNext flight.old flight.new image.now line.now payload.now most stores.new }
+    ensures next { IsNext flight.old flight.new image.now line.now payload.now most stores.new }
+    ensures coming { ComesNext flight.old flight.new image.now line.now payload.now stores.new }
 {
     let mut rows = [0u128; 256];
     let rows = lend(table, &mut rows);
@@ -361,7 +372,9 @@ pub extern "C" fn oopsbox_flight_next(
 fn first_stores(flight: &mut Flight, image: &[u8], payload: &[u8], stores: &mut Stores)
     requires flight { IsFlight flight.old [] payload.now }
     requires len { length image.now ≡ flight.old.zone.size }
-    ensures { IsNext flight.old flight.new image.now [] payload.now 4294967295 stores.new }
+    ensures next { IsNext flight.old flight.new image.now [] payload.now 4294967295 stores.new }
+    ensures whole { call_in flight.old.kind ≡ Append → flight.old.zone.parity ≡ 0 → flight.old.made ≡ 0
+        → stores.new.is_last ≡ 1 }
 {
     let mut steps = steps_of(flight);
     match steps.take_whole(&[], payload, u64::from(u32::MAX)) {

@@ -118,6 +118,19 @@ fn an_append_is_one_call(rt: HostRuntime) -> Result<(), Fail> {
     Ok(())
 }
 
+// Of no bytes there are no stores; more bytes than the zone has are the two words and two runs.
+#[test]
+fn an_append_of_any_length_is_one_answer(rt: HostRuntime) -> Result<(), Fail> {
+    let image = image();
+    let mut flight = Flight::default();
+    let mut stores = no_stores();
+    assert!(rt; oopsbox_append(&console(0), &image, &[], &mut flight, &mut stores) == 0);
+    assert!(rt; (stores.count, stores.is_last, flight.made) == (0, 1, 0));
+    assert!(rt; oopsbox_append(&console(0), &image, &[7; 5000], &mut flight, &mut stores) == 0);
+    assert!(rt; (stores.count, stores.is_last) == (4, 1));
+    Ok(())
+}
+
 #[test]
 fn an_append_of_one_call_is_refused(rt: HostRuntime) -> Result<(), Fail> {
     let mut flight = Flight::default();
@@ -290,6 +303,20 @@ fn a_zone_is_read_by_a_table(rt: HostRuntime) -> Result<(), Fail> {
     assert!(rt; (answer.state, answer.corrected, answer.bad) == (0, 4, 0));
     assert!(rt; oopsbox_zone_read(&place, &image, &[], &mut answer) == 0);
     assert!(rt; (answer.state, answer.corrected, answer.bad) == (0, 4, 0));
+    Ok(())
+}
+
+// The zone is another one at each call.
+#[test]
+fn a_boot_ends_in_a_zone_that_changes(rt: HostRuntime) -> Result<(), Fail> {
+    let mut boot = ZoneBoot::default();
+    let mut stores = no_stores();
+    assert!(rt; oopsbox_boot_begin(&console(0), &image(), &mut boot) == 0);
+    for byte in 0..4u8 {
+        assert!(rt; oopsbox_boot_next(&mut boot, &[byte; 4096], &mut stores) == 0);
+        assert!(rt; (stores.count == 0) == (stores.is_last == 1));
+    }
+    assert!(rt; (stores.is_last, boot.made, boot.phase) == (1, 2, 6));
     Ok(())
 }
 

@@ -1,11 +1,11 @@
 // Stores as C sees them.
 ghost use Rattle.std.specs.Prelude.{◌≡◌, ◌+◌, ◌^◌, ◌≤◌, ◌<◌, ◌↔◌, ◌⊎◌, ◌++◌, [], List, ℕ, IsTrue, length, take, drop};
 ghost use Rattle.zone_spec.specs.Stores.{byte_stores, word_store};
-ghost use Rattle.store_steps.specs.Handed.{handed, IsInside};
+ghost use Rattle.store_steps.specs.Handed.{handed, handed_count, IsInside};
 ghost use Rattle.store_steps.specs.PlainAppends.{size_store};
 ghost use Rattle.store_steps.specs.Whole.{whole_handed, IsWholeInside};
 ghost use Rattle.store_steps.specs.declared.store.Given.TheVariants.{Nothing};
-ghost use Rattle.zone_boot.specs.Handed.{handed as boot_handed, handed_len};
+ghost use Rattle.zone_boot.specs.Handed.{handed as boot_handed, handed_len, IsPlain};
 ghost use Rattle.zone_boot.specs.declared.handing.Given.TheVariants.{Nothing as BootNothing};
 
 use store_steps::{Given, Store, Whole};
@@ -44,7 +44,7 @@ impl StoreRow {
         requires { store.now.given ≡ Nothing → ⊥ }
         ensures stores { (line payload : List ℕ) → row_stores self.new line payload ≡ handed store.now line payload }
         ensures inside { (size : ℕ) (line payload : List ℕ) → IsInside size store.now line payload
-            → IsRowInside size self.new line payload }
+            → 0 < store.now.len → IsRowInside size self.new line payload }
     {
         self.from = store.from;
         self.place = store.place;
@@ -91,8 +91,8 @@ impl StoreRow {
     fn set_payload(&mut self, place: u32, from: u64, len: u32)
         ensures stores { (line payload : List ℕ) → row_stores self.new line payload
             ≡ byte_stores place (take len (drop from payload)) }
-        ensures inside { (size : ℕ) (line payload : List ℕ) → place + len ≤ size → from + len ≤ length payload
-            → IsRowInside size self.new line payload }
+        ensures inside { (size : ℕ) (line payload : List ℕ) → 0 < len → place + len ≤ size
+            → from + len ≤ length payload → IsRowInside size self.new line payload }
     {
         self.from = from;
         self.what = 2;
@@ -106,8 +106,8 @@ impl StoreRow {
         requires { store.now.given ≡ BootNothing → ⊥ }
         ensures stores { (line payload : List ℕ) → row_stores self.new line payload ≡ boot_handed store.now }
         ensures what { (self.new.what ≡ 0) ⊎ (self.new.what ≡ 3) }
-        ensures inside { (size : ℕ) (line payload : List ℕ) → store.now.place + handed_len store.now ≤ size
-            → IsRowInside size self.new line payload }
+        ensures inside { (size : ℕ) (line payload : List ℕ) → 0 < handed_len store.now
+            → store.now.place + handed_len store.now ≤ size → IsRowInside size self.new line payload }
     {
         self.from = 0;
         self.place = store.place;
@@ -158,7 +158,8 @@ impl Stores {
         ensures stores { (line payload : List ℕ) → stores_in self.new line payload
             ≡ stores_in self.old line payload ++ handed store.now line payload }
         ensures inside { (size : ℕ) (line payload : List ℕ) → AreInside size self.old line payload
-            → IsInside size store.now line payload → AreInside size self.new line payload }
+            → IsInside size store.now line payload → 0 < handed_count store.now line payload
+            → AreInside size self.new line payload }
     {
         self.stores[self.count as usize].set(store);
         self.count += 1;
@@ -183,8 +184,8 @@ impl Stores {
         ensures count { self.new.count ≡ self.old.count + 1 }
         ensures stores { (line payload : List ℕ) → stores_in self.new line payload
             ≡ stores_in self.old line payload ++ byte_stores place (take len (drop from payload)) }
-        ensures inside { (size : ℕ) (line payload : List ℕ) → AreInside size self.old line payload → place + len ≤ size
-            → from + len ≤ length payload → AreInside size self.new line payload }
+        ensures inside { (size : ℕ) (line payload : List ℕ) → AreInside size self.old line payload → 0 < len
+            → place + len ≤ size → from + len ≤ length payload → AreInside size self.new line payload }
     {
         self.stores[self.count as usize].set_payload(place, from, len);
         self.count += 1;
@@ -235,10 +236,11 @@ impl Stores {
     /// The stores of a boot alone; where it has none they are the last.
     pub(crate) fn set_boot(&mut self, store: &BootStore)
         ensures stores { (line payload : List ℕ) → stores_in self.new line payload ≡ boot_handed store.now }
-        ensures inside { (size : ℕ) (line payload : List ℕ) → store.now.place + handed_len store.now ≤ size
-            → AreInside size self.new line payload }
+        ensures inside { (size : ℕ) (line payload : List ℕ) → IsPlain store.now
+            → store.now.place + handed_len store.now ≤ size → AreInside size self.new line payload }
         ensures what { AreOfBoot self.new }
         ensures last { (self.new.is_last ≡ 1) ↔ (store.now.given ≡ BootNothing) }
+        ensures none { self.new.is_last ≡ 1 → self.new.count ≡ 0 }
         ensures flag { self.new.is_last ≤ 1 }
     {
         self.clear();

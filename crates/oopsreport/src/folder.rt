@@ -1,8 +1,7 @@
 // A folder of the system in which records are saved.
 ghost use Rattle.std.specs.Prelude.{None};
-ghost use Rattle.report_run.specs.Saving.{IsKeptBack};
 
-use anyhow::{Context, Result, anyhow};
+use anyhow::{Context, Result, anyhow, bail};
 use outside::Failed;
 use region_report::Report;
 use report_run::{Failure, Records};
@@ -129,22 +128,20 @@ impl<R: Files + Drop> Folder for Dir<R> {
     }
 }
 
-// Makes the files of a report's records.
-fn save_in<R: Runtime>(rt: &R, alloc: Global, folder: &str, report: &Report) -> Result<()> {
+// Makes the files of a report's records, if a folder is named.
+fn save_in<R: Runtime>(
+    rt: &R,
+    alloc: Global,
+    folder: &Option<String>,
+    report: &Report,
+) -> Result<()> {
+    let Some(folder) = folder else {
+        bail!("no folder is named");
+    };
     let mut dir = Dir::new(rt.clone()?, alloc, folder).context(format_args!("{folder}"))?;
     match save(&mut dir, report) {
         Ok(()) => Ok(()),
         Err(_) => Err(dir.fault()),
-    }
-}
-
-// Why records were not saved.
-fn unsaved(alloc: Global, error: &anyhow::Error) -> Failure
-    ensures { IsKeptBack result }
-{
-    match format!(in alloc; "{error:#}") {
-        Ok(why) => Failure::Unsaved(why),
-        Err(_) => Failure::Memory,
     }
 }
 
@@ -154,24 +151,33 @@ pub struct Named<R: Runtime> {
     rt: R,
     alloc: Global,
     folder: Option<String>,
+    faults: u64,
 }
 
 impl<R: Runtime> Named<R> {
     pub fn new(rt: R, alloc: Global, folder: Option<String>) -> Named<R> {
-        Named { rt, alloc, folder }
+        Named {
+            rt,
+            alloc,
+            folder,
+            faults: 0,
+        }
     }
 }
 
 impl<R: Runtime> Records for Named<R> {
     ghost made = { λ _. None };
 
+    ghost faults = { λ s. s.faults };
+
     fn save(&mut self, report: &Report) -> Result<(), Failure> {
-        let Some(folder) = &self.folder else {
-            return Ok(());
-        };
-        match save_in(&self.rt, self.alloc, folder, report) {
+        match save_in(&self.rt, self.alloc, &self.folder, report) {
             Ok(()) => Ok(()),
-            Err(error) => Err(unsaved(self.alloc, &error)),
+            Err(error) => {
+                let why = format!(in self.alloc; "{error:#}")?;
+                self.faults = self.faults.saturating_add(1);
+                Err(Failure::Unsaved(why))
+            }
         }
     }
 }

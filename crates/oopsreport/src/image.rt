@@ -1,6 +1,5 @@
 // Images as the system has them: a file, or what comes one byte after the other.
 ghost use Rattle.std.specs.Prelude.{◌≡◌, ◌+◌, length, None};
-ghost use Rattle.report_run.specs.Runs.{IsUnopened};
 
 use crate::unpacking::{is_packed, unpacked};
 use anyhow::{Result, bail};
@@ -141,11 +140,12 @@ fn open<R: Runtime, S: Read>(
     if metadata.is_file() {
         let mut file = FileLoad::new(rt, alloc, path)?;
         return match is_packed(&mut file) {
-            true => Ok(Kind::Front(unpacked(
+            Ok(true) => Ok(Kind::Front(unpacked(
                 alloc,
                 Vec::from_slice(alloc, &fs::read(rt, path)?)?,
             )?)),
-            false => Ok(Kind::File(file)),
+            Ok(false) => Ok(Kind::File(file)),
+            Err(Failed) => bail!("it could not be read"),
         };
     }
     open_device(rt, alloc, path, most)
@@ -159,16 +159,6 @@ fn open_whole<R: Runtime>(rt: &R, alloc: Global, path: &str) -> Result<Kind<R>> 
     Ok(Kind::File(FileLoad::new(rt, alloc, path)?))
 }
 
-// Why a file could not be opened.
-fn unopened(alloc: Global, error: &anyhow::Error) -> Failure
-    ensures { IsUnopened result }
-{
-    match format!(in alloc; "{error:#}") {
-        Ok(why) => Failure::Unopened(why),
-        Err(_) => Failure::Memory,
-    }
-}
-
 /// The files of the system, by their paths; `-` is standard input. Of what is no regular file, such as a device or a
 /// pipe, no more is read than is wanted, and it is no whole memory.
 #[derive(Drop)]
@@ -176,6 +166,7 @@ pub struct System<R: Runtime, S> {
     rt: R,
     alloc: Global,
     input: S,
+    unopened: u64,
     faults: u64,
 }
 
@@ -185,6 +176,7 @@ impl<R: Runtime, S> System<R, S> {
             rt,
             alloc,
             input,
+            unopened: 0,
             faults: 0,
         }
     }
@@ -194,6 +186,8 @@ impl<R: Runtime, S: Read> Images for System<R, S> {
     type Image = Image<R>;
 
     ghost content = { λ _ _ _. None };
+
+    ghost unopened = { λ s. s.unopened };
 
     ghost faults = { λ s. s.faults };
 
@@ -207,7 +201,11 @@ impl<R: Runtime, S: Read> Images for System<R, S> {
                 kind,
                 faults: self.faults,
             }),
-            Err(error) => Err(unopened(self.alloc, &error)),
+            Err(error) => {
+                let why = format!(in self.alloc; "{error:#}")?;
+                self.unopened = self.unopened.saturating_add(1);
+                Err(Failure::Unopened(why))
+            }
         }
     }
 

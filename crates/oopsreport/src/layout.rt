@@ -8,10 +8,11 @@ use kernel_line::{KernelLine, LineFault, Module};
 use ramoops_layout::given;
 use region_report::EntryForm;
 use report_entry::{
-    Layouts, LayoutsFault, NoLayouts, Place, Said, layouts_by, storages_in, with_storage_words,
+    Layouts, LayoutsFault, NoLayouts, Place, Said, layouts_by, storages_in, tree_fault,
+    with_storage_words,
 };
 use report_run::{Logs, Storages, WholeMemory, dressed};
-use report_tool::{Format, Plan, add_order, add_tag, ftrace_tag, zone_order};
+use report_tool::{Format, Plan, add_order, add_tag, ftrace_tag, tree_address, zone_order};
 use std::alloc::{AllocError, Global};
 use std::io::ErrorKind;
 use std::rt::Runtime;
@@ -269,19 +270,21 @@ fn no_layouts(words: &[String], path: Option<&str>, fault: LayoutsFault) -> NoPl
     }
 }
 
-// The nodes of a device tree, where one of them must be named.
-fn tell_nodes<R: Runtime>(
+// Why a device tree and words give no layout, or no address. If a node must be named, the nodes are told first.
+fn no_tree<R: Runtime>(
     rt: &R,
     alloc: Global,
-    path: &str,
-    tree: &[u8],
+    words: &[String],
+    tree: &Tree<'_>,
     fault: LayoutsFault,
-) -> Result<(), NoPlan> {
+) -> NoPlan {
     if let LayoutsFault::NoLayouts(NoLayouts::Tree(NO_NODE | SEVERAL)) = fault {
-        let paths = paths(alloc, tree)?;
-        let _told = eprintln!(rt; "{path}: ramoops nodes:{paths}");
+        let Ok(paths) = paths(alloc, &tree.bytes) else {
+            return NoPlan::Memory;
+        };
+        let _told = eprintln!(rt; "{}: ramoops nodes:{paths}", tree.path);
     }
-    Ok(())
+    no_layouts(words, Some(tree.path), fault)
 }
 
 /// A whole memory, and the size of the region in it, if a command line reserves it by name.
@@ -302,6 +305,8 @@ pub struct Terminal {
 #[derive(Drop)]
 pub struct Asked {
     pub images: report_run::Asked,
+    /// The folder in which records are saved.
+    pub folder: Option<String>,
     pub is_coloured: bool,
 }
 
@@ -355,18 +360,39 @@ fn number(matches: &ArgMatches<'_>, option: &str) -> Result<Option<u64>, NoPlan>
     }
 }
 
-// The address of the node of this path, or of the only one.
-fn node_address(alloc: Global, tree: &[u8], path: Option<&str>) -> Option<u64> {
-    let Ok(nodes) = ramoops_nodes(alloc, tree) else {
-        return None;
+/// A board's device tree, as a file has it, and the node that is named.
+#[derive(Drop)]
+struct Tree<'a> {
+    path: &'a str,
+    bytes: Vec<u8>,
+    node: Option<&'a str>,
+}
+
+// The device tree that the words name, if they do.
+fn read_tree<'a, R: Runtime>(
+    rt: &R,
+    alloc: Global,
+    matches: &'a ArgMatches<'_>,
+) -> Result<Option<Tree<'a>>, NoPlan> {
+    let Some(path) = matches.get_str("dtb") else {
+        return Ok(None);
     };
-    for node in &nodes {
-        match path {
-            Some(path) if node.path.as_slice() != path.as_bytes() => (),
-            _ => return Some(node.numbers.address),
+    Ok(Some(Tree {
+        path,
+        bytes: Vec::from_slice(alloc, &read_file(rt, path)?)?,
+        node: matches.get_str("node"),
+    }))
+}
+
+// The address that a device tree gives the region.
+fn address_in<R: Runtime>(rt: &R, alloc: Global, tree: &Tree<'_>) -> Result<u64, NoPlan> {
+    match tree_address(alloc, &tree.bytes, tree.node) {
+        Ok(address) => Ok(address),
+        Err(fault) => {
+            let fault = LayoutsFault::NoLayouts(tree_fault(fault));
+            Err(no_tree(rt, alloc, &[], tree, fault))
         }
     }
-    None
 }
 
 // Where the words say that a memory and the region in it lie.
@@ -375,13 +401,12 @@ fn memory_by<R: Runtime>(
     alloc: Global,
     matches: &ArgMatches<'_>,
     line: &KernelLine,
+    tree: &Option<Tree<'_>>,
 ) -> Result<Memory, NoPlan> {
     let first = number(matches, "memory-at")?;
     let at = number(matches, "at")?;
-    let said = match (at, first, matches.get_str("dtb")) {
-        (None, Some(_), Some(path)) => {
-            node_address(alloc, &read_file(rt, path)?, matches.get_str("node"))
-        }
+    let said = match (at, first, tree) {
+        (None, Some(_), Some(tree)) => Some(address_in(rt, alloc, tree)?),
         (None, Some(_), None) => line.address(),
         _ => None,
     };
@@ -424,23 +449,19 @@ fn said_by(matches: &ArgMatches<'_>, memory: Option<Memory>) -> Said {
 fn layouts_of<R: Runtime>(
     rt: &R,
     alloc: Global,
-    matches: &ArgMatches<'_>,
     words: &[String],
+    tree: &Option<Tree<'_>>,
     said: &Said,
 ) -> Result<Layouts, NoPlan> {
-    let Some(path) = matches.get_str("dtb") else {
+    let Some(tree) = tree else {
         return match layouts_by(alloc, words, None, None, said) {
             Ok(layouts) => Ok(layouts),
             Err(fault) => Err(no_layouts(words, None, fault)),
         };
     };
-    let tree = read_file(rt, path)?;
-    match layouts_by(alloc, words, Some(&tree), matches.get_str("node"), said) {
+    match layouts_by(alloc, words, Some(&tree.bytes), tree.node, said) {
         Ok(layouts) => Ok(layouts),
-        Err(fault) => {
-            tell_nodes(rt, alloc, path, &tree, fault)?;
-            Err(no_layouts(words, Some(path), fault))
-        }
+        Err(fault) => Err(no_tree(rt, alloc, words, tree, fault)),
     }
 }
 
@@ -519,6 +540,14 @@ fn dressed_by(
     }
 }
 
+// The folder in which records are saved, if one is named.
+fn folder_named(alloc: Global, matches: &ArgMatches<'_>) -> Result<Option<String>, AllocError> {
+    match matches.get_str("save") {
+        Some(folder) => Ok(Some(String::from_str(alloc, folder)?)),
+        None => Ok(None),
+    }
+}
+
 /// How the images are to be read.
 pub fn asked_by<R: Runtime>(
     rt: &R,
@@ -529,17 +558,19 @@ pub fn asked_by<R: Runtime>(
     let line = read_line(rt, alloc, matches)?;
     let takes = takes_storages(matches);
     let words = all_words(alloc, matches, &line, takes)?;
+    let tree = read_tree(rt, alloc, matches)?;
     let memory = match matches.get_flag("memory") {
-        true => Some(memory_by(rt, alloc, matches, &line)?),
+        true => Some(memory_by(rt, alloc, matches, &line, &tree)?),
         false => None,
     };
     let storages = storages_asked(&words, takes)?;
     let said = said_by(matches, memory);
-    let layouts = layouts_of(rt, alloc, matches, region_words(storages, &words), &said)?;
+    let layouts = layouts_of(rt, alloc, region_words(storages, &words), &tree, &said)?;
     let lines = line_count(matches)?;
     let map = read_map(rt, alloc, matches)?;
     let layouts = dressed_by(alloc, layouts, entry_form(matches)?, lines, &map)?;
     let format = format(matches);
+    let folder = folder_named(alloc, matches)?;
     let logs = logs_by(matches, words.is_empty() && memory.is_none());
     Ok(Asked {
         images: report_run::Asked {
@@ -550,9 +581,10 @@ pub fn asked_by<R: Runtime>(
             logs,
             storages,
             memory: memory.map(|memory| memory.whole),
-            saves: matches.get_str("save").is_some(),
+            saves: folder.is_some(),
             counts: terminal.is_errors,
         },
+        folder,
         is_coloured: format == Format::Text && is_coloured(rt, matches, terminal.is_output),
     })
 }

@@ -21,7 +21,7 @@ use layout::{Asked, NoPlan, Terminal, asked_by, format};
 use memory::Progress;
 use outside::{Sink, WriterSink};
 use report_colours::ColourSink;
-use report_run::{Messages, format_for, status_of};
+use report_run::{Messages, format_for, is_counted, status_of};
 use report_tool::Format;
 use std::alloc::{AllocError, Global};
 use std::io::{IsTerminal, Read};
@@ -51,7 +51,7 @@ fn all_paths<R: Runtime, S: Read, O: Sink, E: Sink>(
     let failed = report_run::run(
         alloc, asked, paths, images, &mut watch, out, messages, records,
     );
-    messages.tell_end(asked.counts && all > 1, all);
+    messages.tell_end(is_counted(asked, all), all);
     Ok(status_of(failed, messages.is_lost))
 }
 
@@ -101,14 +101,6 @@ fn paths_of(alloc: Global, matches: &ArgMatches<'_>) -> Result<Vec<String>, Allo
     Ok(paths)
 }
 
-// The folder in which records are saved, if one is named.
-fn folder_named(alloc: Global, matches: &ArgMatches<'_>) -> Result<Option<String>, AllocError> {
-    match matches.get_str("save") {
-        Some(folder) => Ok(Some(String::from_str(alloc, folder)?)),
-        None => Ok(None),
-    }
-}
-
 // Reads the words, and does what they ask.
 fn run<R: Runtime, S: Read + Drop, E: Sink>(
     rt: &R,
@@ -138,7 +130,7 @@ fn run<R: Runtime, S: Read + Drop, E: Sink>(
         Ok(mut asked) => {
             asked.images.format = format_for(files.has_folder, asked.images.format);
             let mut images = System::new(rt.clone()?, alloc, input);
-            let mut records = Named::new(rt.clone()?, alloc, folder_named(alloc, &matches)?);
+            let mut records = Named::new(rt.clone()?, alloc, asked.folder.take());
             all_files(
                 rt,
                 messages,

@@ -2,7 +2,7 @@
 use anyhow::{Result, anyhow, bail};
 use compression::{Compression, compression_of};
 use gzip::{GzipError, GzipFault, gunzip};
-use outside::Load;
+use outside::{Failed, Load};
 use std::alloc::{AllocError, Global};
 
 /// So many bytes of a text or an image are read from a compressed file.
@@ -12,15 +12,13 @@ const MOST: usize = 268_435_456;
 const FRONT: usize = 6;
 
 /// Whether a file begins as a compressed one does.
-pub fn is_packed<M: Load>(file: &mut M) -> bool {
+pub fn is_packed<M: Load>(file: &mut M) -> Result<bool, Failed> {
     let mut front = [0; FRONT];
-    match file.size() {
-        Ok(size) if size >= FRONT as u64 => {
-            file.read_at(0, &mut front).is_ok()
-                && !matches!(compression_of(&front), None | Some(Compression::Zlib))
-        }
-        _ => false,
+    if file.size()? < FRONT as u64 {
+        return Ok(false);
     }
+    file.read_at(0, &mut front)?;
+    Ok(!matches!(compression_of(&front), None | Some(Compression::Zlib)))
 }
 
 // What is wrong with a gzip file.

@@ -16,12 +16,9 @@ use Rattle.zone_spec.specs.Zones.{IsValidZone}
 use Rattle.zone_spec.specs.Parts.{AreBytes, Header, Block}
 use Rattle.zone_spec.specs.declared.State.{State}
 use Rattle.zone_spec.specs.declared.State.TheVariants.{Unsigned, Empty, Invalid, Found}
-use Rattle.zone_spec.specs.PartReadings.{PartReading, part_reading, words_read}
+use Rattle.zone_spec.specs.PartReadings.{part_reading, words_read}
 use Rattle.zone_spec.specs.Reading.{ZoneReading, byte_read, log_read, state_of, reading_in, zone_reading, IsRing}
-use Rattle.rs_decode.specs.declared.Decoded.{Decoded}
-use Rattle.rs_decode.specs.declared.Decoded.TheVariants.{Clean, Fixed, Bad}
-use Rattle.prz_ecc.specs.Outcomes.{CountsAre}
-use Rattle.prz_read.specs.Reads.{bytes_read, corrected_of, bad_of, corrected_below, bad_below}
+use Rattle.prz_read.specs.Reads.{bytes_read, corrected_below, bad_below}
 use Rattle.ring_laws.proofs.BootLaw.{length-reading}
 use Rattle.prz_read.proofs.Images.{block-length}
 
@@ -94,18 +91,6 @@ log-turned z x w ring =
     ∙ ap₂ (λ (xs ys : List ℕ). xs ++ ys) (ap (λ (k : ℕ). drop k (front ++ back)) (sym n)
     ∙ drop-append_seam front back) (ap (λ (k : ℕ). take k (front ++ back)) (sym n) ∙ take-append_seam front back)
     ∙ sym (map-append f (range_with_len w.start (w.size - w.start)) (range_with_len 0 w.start))
-
--- ---- the counts
-pub counted : (o : Decoded) (r : PartReading) → CountsAre o r → (r.corrected ≡ corrected_of o) × (r.bad ≡ bad_of o)
-counted Clean r h = h
-counted (Fixed n) r h = h
-counted Bad r h = h
-
-pub counted-corrected : (o : Decoded) (r : PartReading) → CountsAre o r → corrected_of o ≡ r.corrected
-counted-corrected o r h = sym (counted o r h).0
-
-pub counted-bad : (o : Decoded) (r : PartReading) → CountsAre o r → bad_of o ≡ r.bad
-counted-bad o r h = sym (counted o r h).1
 
 pub bytes_read-none : (z : Zone) (x : List ℕ) (n : ℕ) → n ≡ 0 → [] ≡ bytes_read z x n
 unfolding bytes_read

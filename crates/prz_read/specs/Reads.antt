@@ -7,24 +7,10 @@ use Rattle.zone_spec.specs.PartReadings.{part_reading}
 use Rattle.zone_spec.specs.Reading.{byte_read, blocks_below}
 use Rattle.zone_spec.specs.declared.PartState.{PartState}
 use Rattle.zone_spec.specs.PartStates.{part_state}
-use Rattle.rs_decode.specs.declared.Decoded.{Decoded}
-use Rattle.rs_decode.specs.declared.Decoded.TheVariants.{Clean, Fixed, Bad}
 
 -- the bytes that the first n data places read
 unfoldable pub bytes_read : Zone → List ℕ → ℕ → List ℕ
 bytes_read z image n = map (λ place. byte_read z image place) (range_with_len 0 n)
-
--- the corrected bytes of an outcome
-abbrev pub corrected_of : Decoded → ℕ
-corrected_of Clean = 0
-corrected_of (Fixed n) = n
-corrected_of Bad = 0
-
--- 1 where a part could not be read
-abbrev pub bad_of : Decoded → ℕ
-bad_of Clean = 0
-bad_of (Fixed n) = 0
-bad_of Bad = 1
 
 -- the corrected bytes of the blocks that begin below n
 abbrev pub corrected_below : Zone → List ℕ → ℕ → ℕ

@@ -5,10 +5,10 @@ ghost use Rattle.zone_spec.specs.Parts.{Block, part_word};
 ghost use Rattle.zone_spec.specs.PartReadings.{part_reading};
 ghost use Rattle.prz_ecc.specs.Outcomes.{CountsAre, IsPartExcess};
 ghost use Rattle.zone_spec.specs.Zones.{IsValidZone};
-ghost use Rattle.zone_spec.specs.Reading.{zone_reading, state_of as state_for, log_read, IsRing};
-ghost use Rattle.zone_spec.specs.Boot.{keeps as keeps_zone, is_kept as is_kept_zone};
+ghost use Rattle.zone_spec.specs.Reading.{zone_reading, log_read, IsRing};
+ghost use Rattle.zone_spec.specs.Boot.{keeps as keeps_zone};
 ghost use Rattle.zone_spec.specs.PartStates.{part_states};
-ghost use Rattle.prz_read.specs.Reads.{bytes_read, corrected_of, bad_of, corrected_below, bad_below, states_below};
+ghost use Rattle.prz_read.specs.Reads.{bytes_read, corrected_below, bad_below, states_below};
 
 use crate::parts::{BlockStates, ZoneParts, part_state};
 use crate::span_parts::{excess_pair, read_block, read_block_by, read_header};
@@ -19,7 +19,8 @@ use prz_ecc::{Coder, Decoded, Fix};
 use prz_region::Span;
 use std::alloc::{AllocError, Global};
 use std::marker::Model;
-use zone_spec::{Kind, PartState, State, Words, Zone};
+use zone_boot::{Counts, counts_of, state_of};
+use zone_spec::{PartState, State, Words, Zone};
 
 /// What a boot reads of a zone: its state, the words of its header, its log, and how many bytes of header and blocks
 /// were corrected (of their parity too) and how many of these parts could not be.
@@ -45,49 +46,6 @@ impl Model for Reading {
       corrected = r.corrected;
       bad = r.bad;
     } };
-}
-
-/// Corrected bytes, and parts that could not be read.
-#[derive(Clone, Copy)]
-struct Counts {
-    corrected: u32,
-    bad: u32,
-}
-
-fn counts_of(outcome: Decoded) -> Counts
-    ensures corrected { result.corrected ≡ corrected_of outcome }
-    ensures bad { result.bad ≡ bad_of outcome }
-    ensures few { result.corrected < 256 }
-    ensures one { result.bad ≤ 1 }
-{
-    match outcome {
-        Decoded::Clean => Counts {
-            corrected: 0,
-            bad: 0,
-        },
-        Decoded::Fixed(places) => Counts {
-            corrected: places as u32,
-            bad: 0,
-        },
-        Decoded::Bad => Counts {
-            corrected: 0,
-            bad: 1,
-        },
-    }
-}
-
-fn state_of(zone: &Zone, words: Words) -> State
-    ensures { result ≡ state_for zone.now words }
-{
-    if words.sig != zone.sig {
-        State::Unsigned
-    } else if words.size == 0 && words.start == 0 {
-        State::Empty
-    } else if words.size > zone.cap || words.start > words.size {
-        State::Invalid
-    } else {
-        State::Found
-    }
 }
 
 /// The front of a zone's data as its blocks read, what these blocks count, and their states if they are wanted.
@@ -445,27 +403,10 @@ pub fn read_parts(
     read_parts_by(alloc, &Coder::new(zone), span, zone)
 }
 
-/// Tells whether a boot leaves the zone with this reading without erasing it (`fs/pstore/ram.c`). That an ftrace ring
-/// which cannot be appended to is erased is the project's own choice.
+/// Whether a boot leaves the zone with this reading without erasing it.
 pub fn keeps(zone: &Zone, reading: &Reading) -> bool
     ensures { result ≡ keeps_zone zone.now reading.now }
 {
-    match reading.state {
-        State::Found => is_kept(zone, reading),
-        State::Empty => true,
-        State::Invalid | State::Unsigned => false,
-    }
-}
-
-fn is_kept(zone: &Zone, reading: &Reading) -> bool
-    ensures { result ≡ is_kept_zone zone.now reading.now zone.now.name.kind }
-{
-    let words = reading.words;
-    match zone.name.kind {
-        Kind::Dump => read_line(reading.log.as_slice()).is_some(),
-        Kind::Console | Kind::Pmsg => false,
-        Kind::Ftrace => {
-            (words.start == words.size || words.size == zone.cap) && words.start != zone.cap
-        }
-    }
+    let is_timed = read_line(reading.log.as_slice()).is_some();
+    zone_boot::keeps(zone, reading.words, reading.state, is_timed)
 }

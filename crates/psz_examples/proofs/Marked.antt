@@ -8,7 +8,8 @@ use Rattle.psz_examples.specs.Headers.{wide_front, x86_front}
 use Rattle.psz_examples.specs.Marks.{marked_storage, MarksRow, TooLongRow, JustFitsRow, StepRow, AllShownRow}
 use Rattle.psz_examples.specs.Marks.{OneDumpRow, OneSmallRow, OneLongRow, FirstMissingRow, NoDumpRow, WideMachineRow}
 use Rattle.psz_examples.specs.Marks.{big_marked_storage, both_orders, BigMarksRow, LittleOrderRow, BigOrderRow}
-use Rattle.psz_examples.specs.Marks.{FirstOrderRow, OtherNoMarkRow, MixedMagicRow, NoMarkRow}
+use Rattle.psz_examples.specs.Marks.{FirstOrderRow, OtherNoMarkRow, MixedMagicRow, NoMarkRow, RestBeforeRow}
+use Rattle.psz_examples.specs.Marks.{odd_storage, OddDumpRow}
 use Rattle.psz_examples.specs.Marks.{X86MachineRow, NoMachineRow, KibRow, FiveKibRow, TenKibRow, OddKibRow, NoKibRow}
 
 pub marks : MarksRow
@@ -46,6 +47,14 @@ one_long = refl
 pub first_missing : FirstMissingRow
 unfolding gcd_in gcd step_after step_of rings_of shown_sizes
 first_missing = refl
+
+pub rest_before : RestBeforeRow
+unfolding gcd_in gcd step_after step_of rings_of shown_sizes
+rest_before = refl
+
+pub odd_dump : OddDumpRow
+unfolding word mark_at marks_from odd_storage
+odd_dump = refl
 
 pub no_dump : NoDumpRow
 unfolding gcd_in gcd step_after step_of rings_of shown_sizes

@@ -7,7 +7,8 @@ use Rattle.psz_spec.specs.States.{state_of}
 use Rattle.psz_spec.specs.Records.{total_line, listed_in}
 use Rattle.psz_spec.specs.Cursor.{with_bytes, cursor_of}
 use Rattle.psz_examples.specs.Layouts.{DumpsAloneRow, AllKindsRow, OddPlaceRow, RestUnusedRow, NoRoomRow, NoDumpZoneRow}
-use Rattle.psz_examples.specs.Layouts.{UnevenRow, MoreThanCpusRow, LeftOverRow, MostRow}
+use Rattle.psz_examples.specs.Layouts.{UnevenRow, MoreThanCpusRow, LeftOverRow, MostRow, TotalSmallRow, NoSizeRow}
+use Rattle.psz_examples.specs.Layouts.{TotalUnevenRow, FtraceSmallRow, HeadersAloneRow}
 use Rattle.psz_examples.specs.Headers.{wide_front, x86_front, WideHeaderRow, X86HeaderRow, ErasedRow, UnwrittenRow}
 use Rattle.psz_examples.specs.Headers.{OvertopRow, NoDumpRow, ShortDumpRow, NoDumpEmptyRow, HeaderAloneRow, FilledRow}
 use Rattle.psz_examples.specs.Headers.{OneMoreRow, big_front, big_narrow_front, BigHeaderRow, BigNarrowHeaderRow}
@@ -47,6 +48,26 @@ no_dump_zone = refl
 pub uneven : UnevenRow
 unfolding size_fault
 uneven = refl
+
+pub total_small : TotalSmallRow
+unfolding size_fault
+total_small = refl
+
+pub no_size : NoSizeRow
+unfolding size_fault
+no_size = refl
+
+pub total_uneven : TotalUnevenRow
+unfolding size_fault
+total_uneven = refl
+
+pub ftrace_small : FtraceSmallRow
+unfolding size_fault
+ftrace_small = refl
+
+pub headers_alone : HeadersAloneRow
+unfolding size_fault
+headers_alone = refl
 
 pub wide_header : WideHeaderRow
 unfolding word dump_header wide_front

@@ -66,6 +66,11 @@ abbrev pub FirstMissingRow : Type 0
 FirstMissingRow = shown_sizes 16384 (mark Dump 8192 100 ∷ mark Dump 12288 100 ∷ [])
     ≡ Some (shown (sizes 16384 0 0 0 4096 1))
 
+-- a pmsg of 512 bytes that is empty, and the first dump zone, which was passed over
+abbrev pub RestBeforeRow : Type 0
+RestBeforeRow = shown_sizes 16384 (mark Dump 4608 100 ∷ mark Dump 8704 100 ∷ [])
+    ≡ Some (shown (sizes 16384 512 0 0 4096 1))
+
 abbrev pub NoDumpRow : Type 0
 NoDumpRow = shown_sizes 16384 (mark Pmsg 0 8 ∷ []) ≡ None
 
@@ -130,3 +135,10 @@ MixedMagicRow = mark_at Big 512 0 (67 ∷ 71 ∷ 66 ∷ 68 ∷ 0 ∷ 0 ∷ 0 ∷
 
 abbrev pub NoMarkRow : Type 0
 NoMarkRow = order_in (replicate 512 0) ≡ Little
+
+-- a dump at 4095, where it begins behind the three ftrace zones of the row with an odd place
+unfoldable pub odd_storage : List ℕ
+odd_storage = replicate 4095 0 ++ dump_bytes 44 0 60 3 (codes "text") ++ replicate 8137 0
+
+abbrev pub OddDumpRow : Type 0
+OddDumpRow = marks_in Little odd_storage ≡ []

@@ -4,6 +4,7 @@
 
 ghost use Rattle.psz_examples.specs.Layouts.{DumpsAloneRow, AllKindsRow, OddPlaceRow, RestUnusedRow, NoRoomRow};
 ghost use Rattle.psz_examples.specs.Layouts.{NoDumpZoneRow, UnevenRow, MoreThanCpusRow, LeftOverRow, MostRow};
+ghost use Rattle.psz_examples.specs.Layouts.{TotalSmallRow, NoSizeRow, TotalUnevenRow, FtraceSmallRow, HeadersAloneRow};
 ghost use Rattle.psz_examples.specs.Headers.{WideHeaderRow, X86HeaderRow, ErasedRow, UnwrittenRow, OvertopRow};
 ghost use Rattle.psz_examples.specs.Headers.{NoDumpRow, ShortDumpRow, NoDumpEmptyRow, HeaderAloneRow, FilledRow};
 ghost use Rattle.psz_examples.specs.Headers.{OneMoreRow, BigHeaderRow, BigNarrowHeaderRow, BigFilledRow, BigOneMoreRow};
@@ -20,7 +21,7 @@ ghost use Rattle.psz_examples.specs.Marks.{NoDumpRow as NoDumpMarkRow};
 ghost use Rattle.psz_examples.specs.Marks.{MarksRow, TooLongRow, JustFitsRow, StepRow, AllShownRow, OneDumpRow};
 ghost use Rattle.psz_examples.specs.Marks.{OneSmallRow, OneLongRow, FirstMissingRow, WideMachineRow, X86MachineRow};
 ghost use Rattle.psz_examples.specs.Marks.{BigMarksRow, LittleOrderRow, BigOrderRow, FirstOrderRow, OtherNoMarkRow};
-ghost use Rattle.psz_examples.specs.Marks.{MixedMagicRow, NoMarkRow};
+ghost use Rattle.psz_examples.specs.Marks.{MixedMagicRow, NoMarkRow, RestBeforeRow, OddDumpRow};
 ghost use Rattle.psz_examples.specs.Marks.{NoMachineRow, KibRow, FiveKibRow, TenKibRow, OddKibRow, NoKibRow};
 
 /// Dumps alone; all four kinds; ftrace that does not divide by the processors; what is left over; and sizes that no
@@ -36,6 +37,11 @@ pub fn layouts()
     ensures more_than_cpus { MoreThanCpusRow }
     ensures left_over { LeftOverRow }
     ensures most { MostRow }
+    ensures total_small { TotalSmallRow }
+    ensures no_size { NoSizeRow }
+    ensures total_uneven { TotalUnevenRow }
+    ensures ftrace_small { FtraceSmallRow }
+    ensures headers_alone { HeadersAloneRow }
 {}
 
 /// The headers of dumps of a 64-bit kernel, of one of x86 of 32 bits and of big-endian ones of 64 and 32 bits, and what
@@ -136,4 +142,6 @@ pub fn marks()
     ensures other_no_mark { OtherNoMarkRow }
     ensures mixed_magic { MixedMagicRow }
     ensures no_mark { NoMarkRow }
+    ensures rest_before { RestBeforeRow }
+    ensures odd_dump { OddDumpRow }
 {}

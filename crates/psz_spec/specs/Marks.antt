@@ -1,4 +1,5 @@
--- The sizes that the bytes of a storage show. Nothing in it names them, but headers stand at multiples of 512
+-- The sizes that the bytes of a storage show. Nothing in it names them, but headers stand at multiples of 512. Behind
+-- ftrace zones that do not fill their size dumps stand elsewhere, and have no mark
 use Rattle.std.specs.Prelude.{ℕ, zero, suc, ◌+◌, ◌-◌, ◌/◌, ◌%◌, ◌==◌, nat_lt, nat_le, Bool, true, false}
 use Rattle.std.specs.Prelude.{◌&&◌, if◌then◌else◌, List, [], ◌∷◌, ◌++◌, length, drop, find}
 use Rattle.std.specs.Prelude.{Option, Some, None, is_some}

@@ -129,7 +129,8 @@ fn tree_number(fault: Fault) -> u32
     }
 }
 
-fn tree_fault(fault: TreeFault) -> NoLayouts
+/// Why a device tree gives no layout, or no address.
+pub fn tree_fault(fault: TreeFault) -> NoLayouts
     ensures { result ≡ tree_fault fault }
 {
     match fault {

@@ -13,7 +13,7 @@ mod words;
 
 pub use answers::{Asked, ReportAnswer, ReportEnd, report_in};
 pub use hints::{best_hint, taken_hint};
-pub use laying::{Layouts, LayoutsFault, NoLayouts, Place, Said, layouts_by};
+pub use laying::{Layouts, LayoutsFault, NoLayouts, Place, Said, layouts_by, tree_fault};
 pub use memory::{Image, Text};
 pub use reports::{HintedPlan, Refusal, plan_found};
 pub use storages::{storages_in, with_storage_words};

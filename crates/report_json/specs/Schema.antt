@@ -238,10 +238,17 @@ data_by origin (Part fault text) zones r = part_data_of origin zones r text
 unfoldable pub record_data : Origin → List Saved → RecordShown → Data
 record_data origin zones r = data_by origin r.packing zones r
 
+-- null without a reading
+abbrev pub saved_data : Zone → PartStates → Option ZoneReading → Data
+saved_data z parts None = null
+saved_data z parts (Some reading) = zone_data z reading parts
+
 -- the value of the zone at a place
 abbrev pub IsZoneAt : List Zone → List (Option ZoneReading) → List PartStates → ℕ → Data → Type 0
-IsZoneAt zones readings parts i d = (z : Zone) (reading : ZoneReading) (p : PartStates) → slice_get zones i ≡ Some z
-    → slice_get readings i ≡ Some (Some reading) → slice_get parts i ≡ Some p → d ≡ zone_data z reading p
+IsZoneAt zones readings parts i d =
+    (z : Zone) (saved : Option ZoneReading) (p : PartStates)
+    → slice_get zones i ≡ Some z → slice_get readings i ≡ Some saved → slice_get parts i ≡ Some p
+    → d ≡ saved_data z p saved
 
 -- the values of the first n zones, in order
 pub record AreZones (zones : List Zone) (readings : List (Option ZoneReading)) (parts : List PartStates) (n : ℕ)

@@ -170,7 +170,7 @@ fn put_zone(
     line.end_object()
 }
 
-/// The zone at a place, which has a reading.
+/// The zone at a place.
 fn put_at(
     line: &mut Line,
     zones: &[Zone],

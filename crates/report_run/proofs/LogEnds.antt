@@ -4,18 +4,15 @@ use Rattle.std.proofs.Common.{◌≡◌, ◌≤◌, ◌∙◌, ℕ, Bool, true, 
 use Rattle.std.proofs.Common.{inl, inr, drop, length, ◌-◌, arith, ap, nat_lt}
 use Rattle.std.proofs.lemmas.List.{take_all, length-drop}
 use Rattle.std.specs.Prelude.{Result, Ok, Err, MatchResult, IfSome, IsTrue, ◌↔◌}
-use Rattle.command_spec.specs.declared.Stop.{Stop}
-use Rattle.command_spec.specs.declared.Stop.TheVariants.{Memory, Usage, Param, Layout, NoSharedZone, Short, ScriptFault}
-use Rattle.command_spec.specs.declared.Stop.TheVariants.{ImageFault, SinkFault, TooLong, BadLine, Refused}
-use Rattle.image_file.specs.Loading.{FrontStop}
 use Rattle.text_log_spec.specs.Boots.{IsTextLog}
 use Rattle.layout_spec.specs.declared.Known.{Known}
 use Rattle.region_report.specs.Reports.{ReportHeld}
 use Rattle.report_run.specs.declared.boots.HeldLog.{HeldLog}
 use Rattle.report_run.specs.declared.plans.Asked.{Asked}
-use Rattle.report_run.specs.declared.plans.Logs.TheVariants.{Texts}
+use Rattle.report_run.specs.declared.plans.Logs.{Logs}
+use Rattle.report_run.specs.declared.plans.Logs.TheVariants.{Never, Texts, All}
 use Rattle.report_run.specs.declared.failures.Failure.{Failure}
-use Rattle.report_run.specs.Failures.{stop_failure}
+use Rattle.report_run.specs.Failures.{IsUnread}
 use Rattle.report_run.specs.Messages.{Seen}
 use Rattle.report_run.specs.Boots.{IsTextHeld, IsLogShown, IsLogUnshown}
 use Rattle.report_run.specs.Storages.{IsUnloggedReport, IsNoUnloggedReport}
@@ -58,25 +55,19 @@ log_held (Some image) same size at base bytes text l e at_is text_is base_is siz
     subst (λ (t : List ℕ). IsTextHeld t (length image - length (log_text image)) l) whole
     (subst (λ (n : ℕ). IsTextHeld text n l) place is)
 
-pub unlooked : (s : Stop) (before now : ℕ) → FrontStop s before now → IsUnlooked before now (stop_failure s)
-unlooked Memory before now h = tt
-unlooked ImageFault before now h = h
-unlooked Usage before now h = absurd h
-unlooked (Param fault words) before now h = absurd h
-unlooked (Layout n) before now h = absurd h
-unlooked NoSharedZone before now h = absurd h
-unlooked (Short has needed) before now h = absurd h
-unlooked ScriptFault before now h = absurd h
-unlooked SinkFault before now h = absurd h
-unlooked TooLong before now h = absurd h
-unlooked (BadLine n) before now h = absurd h
-unlooked (Refused n cause) before now h = absurd h
+-- a log that is taken is looked for
+pub unheld : (logs : Logs) (is : Bool) (holds : Option (List ℕ)) (read0 read1 read2 : ℕ) (why : Failure)
+    → IsSeenLog is logs holds → is ≡ true → read1 ≡ read0 → IsUnread read1 read2 why → IsUnlooked logs read0 read2 why
+unheld Never is holds read0 read1 read2 why seen taken same h =
+    absurd (subst (λ (b : Bool). IsSeenLog b Never holds) taken seen)
+unheld Texts is holds read0 read1 read2 why seen taken same h = subst (λ (n : ℕ). IsUnread n read2 why) same h
+unheld All is holds read0 read1 read2 why seen taken same h = subst (λ (n : ℕ). IsUnread n read2 why) same h
 
 -- ---- the report
 
 module _ (asked : Asked) (known : Known) (path : List ℕ) (holds given now : Option (List ℕ)) (read0 read2 put0 put1 : ℕ)
   where
-    pub unseen : (a : Seen) (why : Failure) → IsUnlooked read0 read2 why
+    pub unseen : (a : Seen) (why : Failure) → IsUnlooked asked.logs read0 read2 why
         → IsNoUnknownReport asked known path holds read0 read2 given given put0 put1 a a why
     unseen a why h = inl (record { cause = h; unput = refl; silent = refl })
 

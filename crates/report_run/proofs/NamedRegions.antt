@@ -3,12 +3,11 @@ use Rattle.std.proofs.Common.{◌≡◌, ◌∙◌, ℕ, List, Option, Some, sub
 use Rattle.std.specs.Prelude.{Result, Ok, Err, MatchResult}
 use Rattle.found_regions.specs.declared.region.Region.{Region}
 use Rattle.report_tool.specs.declared.plan.Plan.{Plan}
-use Rattle.report_tool.specs.Saved.{Files}
 use Rattle.report_run.specs.declared.plans.Asked.{Asked}
 use Rattle.report_run.specs.declared.failures.Failure.{Failure}
 use Rattle.report_run.specs.Places.{region_name}
 use Rattle.report_run.specs.Regions.{IsPlaceDone, IsPlaceUndone, IsRegionDone, IsRegionUndone}
-use Rattle.report_run.specs.States.{State}
+use Rattle.report_run.specs.States.{Folder, State}
 use Rattle.report_run.specs.Memories.{IsNamedDone, IsNamedUndone, IsByGiven, IsNotByGiven}
 
 module _ (asked : Asked) (path : List ℕ) (base : ℕ) (name : List ℕ) (holds : Option (List ℕ)) (read0 read1 : ℕ) where
@@ -24,7 +23,7 @@ module _ (asked : Asked) (path : List ℕ) (base : ℕ) (name : List ℕ) (holds
       inr (subst (λ (n : List ℕ). IsRegionUndone asked n region holds read0 read1 a b why) e h)
 
   pub given_named : {T : Type 0} (plan : Plan) (at : Option ℕ) (place : ℕ) (given now : Option (List ℕ))
-      (put0 put1 : ℕ) (made made_now : Option Files) (r : Result T Failure) → at ≡ Some place
+      (put0 put1 : ℕ) (made made_now : Folder) (r : Result T Failure) → at ≡ Some place
       → name ≡ region_name path base place
       → MatchResult r (λ _. IsPlaceDone asked plan name place holds given now made made_now)
       (IsPlaceUndone asked plan name place holds read0 read1 given now put0 put1 made made_now)

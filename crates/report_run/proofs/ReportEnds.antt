@@ -5,8 +5,6 @@ use Rattle.std.specs.Prelude.{Result, Ok, Err, MatchResult}
 use Rattle.layout_spec.specs.declared.Known.{Known}
 use Rattle.region_report.specs.Reports.{ReportHeld}
 use Rattle.report_tool.specs.declared.plan.Plan.{Plan}
-use Rattle.report_tool.specs.declared.showing.Format.{Format}
-use Rattle.report_tool.specs.declared.showing.Format.TheVariants.{Text, Json, Html, Brief}
 use Rattle.report_tool.specs.Images.{IsReported}
 use Rattle.report_entry.specs.declared.reports.HintedPlan.{HintedPlan}
 use Rattle.report_entry.specs.declared.laying.Layouts.{Layouts}
@@ -18,14 +16,6 @@ use Rattle.report_run.specs.Looking.{IsLooking}
 use Rattle.report_run.specs.Plans.{IsAskedPlan}
 use Rattle.report_run.specs.Images.{TellsLayout, IsNotTold, IsStopped, IsSoughtReport, IsNoSoughtReport}
 use Rattle.report_run.specs.Reports.{IsReport, IsNoReport}
-
--- lines that were told raised no count of faults
-pub settled : (format : Format) (lines : List ℕ) (given now : Option (List ℕ)) (before after : ℕ) (a b : Seen)
-    → TellsLayout format lines given now before after a b → after ≡ before
-settled Text lines given now before after a b t = t.no_fault
-settled Json lines given now before after a b t = t.no_fault
-settled Html lines given now before after a b t = t.no_fault
-settled Brief lines given now before after a b t = t.no_fault
 
 module _ (asked : Asked) (known : Known) (path : List ℕ) (holds same : Option (List ℕ)) (told : HintedPlan)
     (planned : IsAskedPlan asked known path holds told) (first looked : Seen)
@@ -53,7 +43,7 @@ module _ (asked : Asked) (known : Known) (path : List ℕ) (holds same : Option 
     here = subst (λ (o : Option (List ℕ)). IsReported asked.format path told.plan o given between report) e reported
 
     -- the lines were told behind it
-    pub ended : TellsLayout asked.format lines between now put1 put2 looked b
+    pub ended : TellsLayout asked.format lines between now looked b
         → IsSoughtReport asked known path holds given now first b report
     ended tells = record {
       told = told;
@@ -62,10 +52,7 @@ module _ (asked : Asked) (known : Known) (path : List ℕ) (holds same : Option 
       looking = looking;
       between = between;
       reported = here;
-      faults = put1;
-      lines = subst (λ (t : List ℕ). TellsLayout asked.format t between now put1 put1 looked b) are
-          (subst (λ (p : ℕ). TellsLayout asked.format lines between now put1 p looked b)
-          (settled asked.format lines between now put1 put2 looked b tells) tells);
+      lines = subst (λ (t : List ℕ). TellsLayout asked.format t between now looked b) are tells;
     }
 
     -- or they failed

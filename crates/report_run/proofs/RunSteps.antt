@@ -6,22 +6,22 @@ use Rattle.std.specs.declared.string.String.{String}
 use Rattle.std.specs.declared.alloc.Global.{Global}
 use Rattle.report_run.specs.declared.plans.Asked.{Asked}
 use Rattle.report_run.specs.declared.plans.Wanted.{Wanted}
-use Rattle.report_run.specs.States.{State}
+use Rattle.report_run.specs.States.{State, Reads}
 use Rattle.report_run.specs.Runs.{wanted, IsStep, AreSteps}
 
-module _ (asked : Asked) (content : List ℕ → Wanted → Option (List ℕ)) (paths : List (String Global)) (first : ℕ)
+module _ (asked : Asked) (content : List ℕ → Wanted → Option (List ℕ)) (paths : List (String Global)) (first : Reads)
     (start : State) where
   -- what the images from a place on do, those before have led to
-  abbrev pub Continues : ℕ → ℕ → State → Bool → Type 0
-  Continues i reads s failed =
-      (last : ℕ) (after : State) (now : Bool)
-      → AreSteps asked content (length paths) i (drop i paths) reads s failed last after now
+  abbrev pub Continues : ℕ → Reads → State → Bool → Type 0
+  Continues i r s failed =
+      (last : Reads) (after : State) (now : Bool)
+      → AreSteps asked content (length paths) i (drop i paths) r s failed last after now
       → AreSteps asked content (length paths) 0 paths first start false last after now
 
   pub none_run : Continues 0 first start false
   none_run = λ last after now steps. steps
 
-  next : (i : ℕ) (path : String Global) (r q : ℕ) (s m : State) (was failed : Bool) → i < length paths
+  next : (i : ℕ) (path : String Global) (r q : Reads) (s m : State) (was failed : Bool) → i < length paths
       → path ≡ get_or paths i path
       → IsStep asked i (length paths) (string_bytes path) (content (string_bytes path) (wanted asked.memory asked.layouts))
       r q s m was failed → Continues i r s was → Continues (i + 1) q m failed
@@ -33,12 +33,12 @@ module _ (asked : Asked) (content : List ℕ → Wanted → Option (List ℕ)) (
       ∙ ap (λ k. path ∷ drop k paths) (sym (add-one i))))
       (joined last after now steps))
     where
-      joined : (last : ℕ) (after : State) (now : Bool)
+      joined : (last : Reads) (after : State) (now : Bool)
           → AreSteps asked content (length paths) (i + 1) (drop (i + 1) paths) q m failed last after now
           → AreSteps asked content (length paths) i (path ∷ drop (i + 1) paths) r s was last after now
       joined last after now steps = (q, m, failed, step, steps)
 
-  pub one_run : (i : ℕ) (path : String Global) (text : List ℕ) (held : List ℕ → Wanted → Option (List ℕ)) (r q : ℕ)
+  pub one_run : (i : ℕ) (path : String Global) (text : List ℕ) (held : List ℕ → Wanted → Option (List ℕ)) (r q : Reads)
       (s m : State) (was failed : Bool) → i < length paths → path ≡ get_or paths i path → text ≡ string_bytes path
       → held ≡ content
       → IsStep asked i (length paths) text (held text (wanted asked.memory asked.layouts)) r q s m was failed
@@ -52,7 +52,7 @@ module _ (asked : Asked) (content : List ℕ → Wanted → Option (List ℕ)) (
       (f text (wanted asked.memory asked.layouts)) r q s m was failed) same step))
       so_far
 
-  pub all_run : (i : ℕ) (r : ℕ) (s : State) (failed : Bool) → length paths ≤ i → Continues i r s failed
+  pub all_run : (i : ℕ) (r : Reads) (s : State) (failed : Bool) → length paths ≤ i → Continues i r s failed
       → AreSteps asked content (length paths) 0 paths first start false r s failed
   unfolding AreSteps
   all_run i r s failed behind so_far =

@@ -3,12 +3,12 @@ use Rattle.std.proofs.Common.{◌≡◌, ℕ, ◌≤◌, List, Option, Bool, sub
 use Rattle.std.specs.Prelude.{not, ◌||◌}
 use Rattle.report_run.specs.declared.plans.Asked.{Asked}
 use Rattle.report_run.specs.Messages.{Seen, IsCounted}
-use Rattle.report_run.specs.States.{State}
+use Rattle.report_run.specs.States.{State, Reads}
 use Rattle.report_run.specs.Runs.{is_counted, IsPath, IsStep}
 
-pub step : (asked : Asked) (i all : ℕ) (path : List ℕ) (holds : Option (List ℕ)) (r q : ℕ) (a b : State)
+pub step : (asked : Asked) (i all : ℕ) (path : List ℕ) (holds : Option (List ℕ)) (r q : Reads) (a b : State)
     (between : Seen) (was now done is_shown : Bool) → is_shown ≡ is_counted asked all
-    → IsCounted is_shown i all a.errors between → r ≤ q
+    → IsCounted is_shown i all a.errors between → r.unread ≤ q.unread
     → IsPath done asked path holds r q (record a { errors = between }) b → now ≡ (was || not done)
     → IsStep asked i all path holds r q a b was now
 step asked i all path holds r q a b between was now done is_shown e counted later is_path failed = record {

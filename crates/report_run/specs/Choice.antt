@@ -14,6 +14,7 @@ use Rattle.report_run.specs.declared.plans.Asked.{Asked}
 use Rattle.report_run.specs.declared.choosing.Survey.{Survey}
 use Rattle.report_run.specs.declared.failures.Failure.{Failure}
 use Rattle.report_run.specs.declared.failures.Failure.TheVariants.{Memory, Unread, NotThere, NoRegion, Several}
+use Rattle.report_run.specs.Failures.{IsUnread}
 use Rattle.report_run.specs.Messages.{Seen, IsTold}
 use Rattle.report_run.specs.Places.{places_text, finding_lines, regions_in}
 
@@ -31,12 +32,6 @@ IsNotThere known place holds before now NotThere = IfSome holds (λ memory. IsRe
 IsNotThere known place holds before now other = ⊥
 
 -- ---- all regions that are found
-
--- memory ran out, or it could not be read
-abbrev pub IsUnread : ℕ → ℕ → Failure → Type 0
-IsUnread before now Memory = ⊤
-IsUnread before now Unread = Rose before now
-IsUnread before now other = ⊥
 
 abbrev pub is_html : Format → Bool
 is_html Html = true

@@ -1,4 +1,6 @@
--- Why a report by a plan was not made, or a whole memory not read
+-- Why a report by a plan was not made, or an image or a whole memory not read
+use Rattle.std.specs.Prelude.{⊤, ℕ}
+use Rattle.outside.specs.Outside.{Rose}
 use Rattle.command_spec.specs.declared.Stop.{Stop}
 use Rattle.command_spec.specs.declared.Stop.TheVariants.{Short as TooShort, ImageFault, SinkFault}
 use Rattle.memory_regions.specs.declared.pages.Unread.{Unread as Fault}
@@ -17,6 +19,12 @@ stop_failure other = Memory
 abbrev pub unread_failure : Fault → Failure
 unread_failure NoMemory = Memory
 unread_failure ReadFault = Unread
+
+-- memory ran out, or it could not be read
+abbrev pub IsUnread : ℕ → ℕ → Failure → Type 0
+IsUnread before now Memory = ⊤
+IsUnread before now Unread = Rose before now
+IsUnread before now other = ⊥
 
 abbrev pub no_storage_failure : NoStorage → Failure
 no_storage_failure (Stopped stop) = stop_failure stop

@@ -21,25 +21,22 @@ use Rattle.report_run.specs.Plans.{IsAskedPlan, IsNotSought}
 -- ---- the lines on a layout: to standard output with a text, and to standard error for JSON and a page; one line has
 -- none
 
-pub record IsBeside (lines : List ℕ) (given now : Option (List ℕ)) (before after : ℕ) (a b : Seen) : Type 0 where
+pub record IsBeside (lines : List ℕ) (given now : Option (List ℕ)) (a b : Seen) : Type 0 where
   pub put : Appends given now lines
-  pub no_fault : after ≡ before
   pub silent : b ≡ a
 
-pub record IsAside (lines : List ℕ) (given now : Option (List ℕ)) (before after : ℕ) (a b : Seen) : Type 0 where
+pub record IsAside (lines : List ℕ) (given now : Option (List ℕ)) (a b : Seen) : Type 0 where
   pub unput : now ≡ given
-  pub no_fault : after ≡ before
   pub told : IsTold lines a b
 
-pub record IsUntold (given now : Option (List ℕ)) (before after : ℕ) (a b : Seen) : Type 0 where
+pub record IsUntold (given now : Option (List ℕ)) (a b : Seen) : Type 0 where
   pub unput : now ≡ given
-  pub no_fault : after ≡ before
   pub silent : b ≡ a
 
-abbrev pub TellsLayout : Format → List ℕ → Option (List ℕ) → Option (List ℕ) → ℕ → ℕ → Seen → Seen → Type 0
-TellsLayout Text lines given now before after a b = IsBeside lines given now before after a b
-TellsLayout Brief lines given now before after a b = IsUntold given now before after a b
-TellsLayout other lines given now before after a b = IsAside lines given now before after a b
+abbrev pub TellsLayout : Format → List ℕ → Option (List ℕ) → Option (List ℕ) → Seen → Seen → Type 0
+TellsLayout Text lines given now a b = IsBeside lines given now a b
+TellsLayout Brief lines given now a b = IsUntold given now a b
+TellsLayout other lines given now a b = IsAside lines given now a b
 
 -- standard output failed
 pub record IsCutOff (lines : List ℕ) (given now : Option (List ℕ)) (before after : ℕ) (a b : Seen) (why : Failure)
@@ -76,8 +73,7 @@ pub record IsSoughtReport (asked : Asked) (known : Known) (path : List ℕ) (hol
   pub looking : IsLooking known path holds a looked
   pub between : Option (List ℕ)
   pub reported : IsReported asked.format path told.plan holds given between report
-  pub faults : ℕ
-  pub lines : TellsLayout asked.format (string_bytes told.hint) between now faults faults looked b
+  pub lines : TellsLayout asked.format (string_bytes told.hint) between now looked b
 
 -- there is no plan: nothing was given out
 pub record IsUnplanned (known : Known) (path : List ℕ) (holds : Option (List ℕ)) (read_before read_now : ℕ)

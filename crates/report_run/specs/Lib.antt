@@ -10,8 +10,8 @@ pub mod Packed
 pub mod Storages
 pub mod Reports
 pub mod Places
-pub mod Saving
 pub mod States
+pub mod Saving
 pub mod Choice
 pub mod Regions
 pub mod Memories

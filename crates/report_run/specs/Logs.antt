@@ -2,7 +2,6 @@
 use Rattle.std.specs.Prelude.{⊤, ℕ, ◌+◌, ◌-◌, ◌^◌, ◌==◌, nat_lt, Bool, true, false, not, if◌then◌else◌}
 use Rattle.std.specs.Prelude.{List, length, take, drop, Option, Some, None, IfSome}
 use Rattle.std.specs.List.{prefix_len}
-use Rattle.outside.specs.Outside.{Rose}
 use Rattle.text_log_spec.specs.Boots.{IsTextLog}
 use Rattle.region_report.specs.Reports.{ReportHeld}
 use Rattle.report_run.specs.declared.boots.HeldLog.{HeldLog}
@@ -10,7 +9,7 @@ use Rattle.report_run.specs.declared.plans.Asked.{Asked}
 use Rattle.report_run.specs.declared.plans.Logs.{Logs}
 use Rattle.report_run.specs.declared.plans.Logs.TheVariants.{Never, Texts, All}
 use Rattle.report_run.specs.declared.failures.Failure.{Failure}
-use Rattle.report_run.specs.declared.failures.Failure.TheVariants.{Memory, Unread}
+use Rattle.report_run.specs.Failures.{IsUnread}
 use Rattle.report_run.specs.Boots.{IsTextHeld, IsLogShown, IsLogUnshown}
 
 -- so many bytes tell whether an image is a text
@@ -65,11 +64,10 @@ abbrev pub IsLooked : Logs → Option (List ℕ) → Option HeldLog → Type 0
 IsLooked logs holds None = IsNoLog logs holds
 IsLooked logs holds (Some l) = IsHeldLog logs holds l
 
--- it could not be read
-abbrev pub IsUnlooked : ℕ → ℕ → Failure → Type 0
-IsUnlooked before now Memory = ⊤
-IsUnlooked before now Unread = Rose before now
-IsUnlooked before now other = ⊥
+-- why it is not known; where none is looked for, it is known without a look
+abbrev pub IsUnlooked : Logs → ℕ → ℕ → Failure → Type 0
+IsUnlooked Never before now why = ⊥
+IsUnlooked other before now why = IsUnread before now why
 
 -- the report of that log
 pub record IsLogReport (asked : Asked) (path : List ℕ) (holds given now : Option (List ℕ)) (report : ReportHeld)

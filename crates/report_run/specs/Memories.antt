@@ -3,7 +3,6 @@ use Rattle.std.specs.Prelude.{◌≡◌, ◌⊎◌, ◌≤◌, ℕ, List, [], �
 use Rattle.layout_spec.specs.declared.Known.{Known}
 use Rattle.found_regions.specs.declared.region.Region.{Region}
 use Rattle.report_tool.specs.declared.plan.Plan.{Plan}
-use Rattle.report_tool.specs.Saved.{Files}
 use Rattle.report_entry.specs.declared.laying.Layouts.{Layouts}
 use Rattle.report_entry.specs.declared.laying.Layouts.TheVariants.{Given, Sought}
 use Rattle.report_run.specs.declared.plans.Asked.{Asked}
@@ -14,7 +13,7 @@ use Rattle.report_run.specs.Choice.{AreChosen, AreUnchosen}
 use Rattle.report_run.specs.Messages.{Seen}
 use Rattle.report_run.specs.Places.{region_name}
 use Rattle.report_run.specs.Regions.{IsPlaceDone, IsPlaceUndone, IsRegionDone, IsRegionUntold, IsRegionUndone}
-use Rattle.report_run.specs.States.{State}
+use Rattle.report_run.specs.States.{Folder, State}
 
 -- ---- regions, one after another
 
@@ -52,20 +51,19 @@ AreRegionsUndone asked path base holds read_first read_now (region ∷ regions) 
 -- ---- a layout that is given: the region at the place that is named; nothing goes to standard error
 
 -- memory ran out before
-pub record IsUnbegun (cause why : Failure) (given now : Option (List ℕ)) (made made_now : Option Files)
-    : Type 0 where
+pub record IsUnbegun (cause why : Failure) (given now : Option (List ℕ)) (made made_now : Folder) : Type 0 where
   pub why_is : why ≡ cause
   pub unput : now ≡ given
   pub unmade : made_now ≡ made
 
 abbrev pub IsByGiven : Option ℕ → Asked → Plan → List ℕ → ℕ → Option (List ℕ) → Option (List ℕ) → Option (List ℕ)
-    → Option Files → Option Files → Type 0
+    → Folder → Folder → Type 0
 IsByGiven None asked plan path base holds given now made made_now = ⊥
 IsByGiven (Some place) asked plan path base holds given now made made_now =
     IsPlaceDone asked plan (region_name path base place) place holds given now made made_now
 
 abbrev pub IsNotByGiven : Option ℕ → Asked → Plan → List ℕ → ℕ → Option (List ℕ) → ℕ → ℕ → Option (List ℕ)
-    → Option (List ℕ) → ℕ → ℕ → Option Files → Option Files → Failure → Type 0
+    → Option (List ℕ) → ℕ → ℕ → Folder → Folder → Failure → Type 0
 IsNotByGiven None asked plan path base holds read_before read_now given now put_before put_now made made_now why =
     IsUnbegun NoPlace why given now made made_now
 IsNotByGiven (Some place) asked plan path base holds read_before read_now given now put_before put_now made made_now
@@ -111,6 +109,7 @@ IsNotBySearch asked whole known path holds read_before read_now a b why =
 pub record IsGivenDone (asked : Asked) (plan : Plan) (whole : WholeMemory) (path : List ℕ) (holds : Option (List ℕ))
     (a b : State) : Type 0 where
   pub done : IsByGiven whole.place asked plan path whole.base holds a.out b.out a.files b.files
+  pub no_fault : b.out_faults ≡ a.out_faults
   pub silent : b.errors ≡ a.errors
 
 pub record IsGivenUndone (asked : Asked) (plan : Plan) (whole : WholeMemory) (path : List ℕ)

@@ -9,7 +9,6 @@ use Rattle.region_report.specs.Reports.{ReportHeld}
 use Rattle.report_tool.specs.declared.plan.Plan.{Plan}
 use Rattle.report_tool.specs.Plans.{IsLaid}
 use Rattle.report_tool.specs.Images.{IsReported}
-use Rattle.report_tool.specs.Saved.{Files}
 use Rattle.report_entry.specs.Hints.{IsTakenHint}
 use Rattle.report_run.specs.declared.plans.Asked.{Asked}
 use Rattle.report_run.specs.declared.regions.RegionTold.{RegionTold}
@@ -19,7 +18,7 @@ use Rattle.report_run.specs.Images.{IsStoppedAt, TellsLayout, IsNotTold}
 use Rattle.report_run.specs.Places.{larger_line}
 use Rattle.report_run.specs.Plans.{dressed, map_of}
 use Rattle.report_run.specs.Saving.{IsSaved, IsUnsaved}
-use Rattle.report_run.specs.States.{State}
+use Rattle.report_run.specs.States.{Folder, State}
 
 -- ---- the bytes of a region
 
@@ -43,7 +42,7 @@ IsUnheld place size holds before now other = ⊥
 -- ---- the report of those bytes, and the records saved
 
 pub record IsPlaceDone (asked : Asked) (plan : Plan) (name : List ℕ) (place : ℕ) (holds given now : Option (List ℕ))
-    (made made_now : Option Files) : Type 0 where
+    (made made_now : Folder) : Type 0 where
   pub bytes : List ℕ
   pub held : IsHeld place plan.mem holds bytes
   pub report : ReportHeld
@@ -52,14 +51,14 @@ pub record IsPlaceDone (asked : Asked) (plan : Plan) (name : List ℕ) (place : 
 
 -- there were no such bytes: nothing was given out
 pub record IsPlaceUnheld (plan : Plan) (place : ℕ) (holds : Option (List ℕ)) (read_before read_now : ℕ)
-    (given now : Option (List ℕ)) (made made_now : Option Files) (why : Failure) : Type 0 where
+    (given now : Option (List ℕ)) (made made_now : Folder) (why : Failure) : Type 0 where
   pub cause : IsUnheld place plan.mem holds read_before read_now why
   pub unput : now ≡ given
   pub unmade : made_now ≡ made
 
 -- or the report stopped: no file was made
 pub record IsPlaceStopped (asked : Asked) (plan : Plan) (name : List ℕ) (place : ℕ) (holds : Option (List ℕ))
-    (given now : Option (List ℕ)) (put_before put_now : ℕ) (made made_now : Option Files) (why : Failure)
+    (given now : Option (List ℕ)) (put_before put_now : ℕ) (made made_now : Folder) (why : Failure)
     : Type 0 where
   pub bytes : List ℕ
   pub held : IsHeld place plan.mem holds bytes
@@ -68,19 +67,22 @@ pub record IsPlaceStopped (asked : Asked) (plan : Plan) (name : List ℕ) (place
 
 -- or its records were not saved
 pub record IsPlaceUnkept (asked : Asked) (plan : Plan) (name : List ℕ) (place : ℕ) (holds : Option (List ℕ))
-    (given now : Option (List ℕ)) (made made_now : Option Files) (why : Failure) : Type 0 where
+    (read_before read_now : ℕ) (given now : Option (List ℕ)) (put_before put_now : ℕ) (made made_now : Folder)
+    (why : Failure) : Type 0 where
   pub bytes : List ℕ
   pub held : IsHeld place plan.mem holds bytes
+  pub no_read_fault : read_now ≡ read_before
   pub report : ReportHeld
   pub reported : IsReported asked.format name plan (Some bytes) given now report
+  pub no_put_fault : put_now ≡ put_before
   pub cause : IsUnsaved asked.saves report made made_now why
 
 abbrev pub IsPlaceUndone : Asked → Plan → List ℕ → ℕ → Option (List ℕ) → ℕ → ℕ → Option (List ℕ) → Option (List ℕ)
-    → ℕ → ℕ → Option Files → Option Files → Failure → Type 0
+    → ℕ → ℕ → Folder → Folder → Failure → Type 0
 IsPlaceUndone asked plan name place holds read_before read_now given now put_before put_now made made_now why =
     IsPlaceUnheld plan place holds read_before read_now given now made made_now why
     ⊎ (IsPlaceStopped asked plan name place holds given now put_before put_now made made_now why
-    ⊎ IsPlaceUnkept asked plan name place holds given now made made_now why)
+    ⊎ IsPlaceUnkept asked plan name place holds read_before read_now given now put_before put_now made made_now why)
 
 -- ---- a region that was found: its report, and then the lines on it
 
@@ -106,8 +108,8 @@ pub record IsRegionDone (asked : Asked) (name : List ℕ) (region : Region) (hol
   pub is_told : IsRegionTold asked name region told
   pub between : Option (List ℕ)
   pub done : IsPlaceDone asked told.plan name region.place holds a.out between a.files b.files
-  pub lines : TellsLayout asked.format (string_bytes told.lines) between b.out a.out_faults b.out_faults a.errors
-      b.errors
+  pub lines : TellsLayout asked.format (string_bytes told.lines) between b.out a.errors b.errors
+  pub no_fault : b.out_faults ≡ a.out_faults
 
 -- memory ran out before
 pub record IsRegionUntold (a b : State) (why : Failure) : Type 0 where

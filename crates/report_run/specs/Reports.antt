@@ -7,6 +7,7 @@ use Rattle.report_tool.specs.Images.{IsReported}
 use Rattle.report_entry.specs.declared.laying.Layouts.{Layouts}
 use Rattle.report_entry.specs.declared.laying.Layouts.TheVariants.{Given, Sought}
 use Rattle.report_run.specs.declared.plans.Asked.{Asked}
+use Rattle.report_run.specs.declared.plans.Logs.{Logs}
 use Rattle.report_run.specs.declared.failures.Failure.{Failure}
 use Rattle.report_run.specs.Messages.{Seen}
 use Rattle.report_run.specs.Images.{IsStopped}
@@ -34,9 +35,9 @@ IsUnknownReport asked known path holds given now a b report =
     IsAsLog asked path holds given now a b report ⊎ IsAsUnlogged asked known path holds given now a b report
 
 -- it could not be read: nothing was given out
-pub record IsUnseenLog (read_before read_now : ℕ) (given now : Option (List ℕ)) (a b : Seen) (why : Failure)
-    : Type 0 where
-  pub cause : IsUnlooked read_before read_now why
+pub record IsUnseenLog (logs : Logs) (read_before read_now : ℕ) (given now : Option (List ℕ)) (a b : Seen)
+    (why : Failure) : Type 0 where
+  pub cause : IsUnlooked logs read_before read_now why
   pub unput : now ≡ given
   pub silent : b ≡ a
 
@@ -56,7 +57,7 @@ pub record IsNotUnlogged (asked : Asked) (known : Known) (path : List ℕ) (hold
 abbrev pub IsNoUnknownReport : Asked → Known → List ℕ → Option (List ℕ) → ℕ → ℕ → Option (List ℕ) → Option (List ℕ)
     → ℕ → ℕ → Seen → Seen → Failure → Type 0
 IsNoUnknownReport asked known path holds read_before read_now given now put_before put_now a b why =
-    IsUnseenLog read_before read_now given now a b why
+    IsUnseenLog asked.logs read_before read_now given now a b why
     ⊎ (IsNotAsLog asked path holds given now put_before put_now a b why
     ⊎ IsNotUnlogged asked known path holds read_before read_now given now put_before put_now a b why)
 

@@ -1,8 +1,9 @@
 -- The run over files, one after another
-use Rattle.std.specs.Prelude.{◌≡◌, ◌⊎◌, ◌≤◌, ⊤, ℕ, nat_lt, Bool, true, false, not, ◌&&◌, ◌||◌, if◌then◌else◌, List}
+use Rattle.std.specs.Prelude.{◌≡◌, ◌⊎◌, ◌≤◌, ℕ, nat_lt, Bool, true, false, not, ◌&&◌, ◌||◌, if◌then◌else◌, List}
 use Rattle.std.specs.Prelude.{length, Option, Some, None, ◌+◌, [], ◌∷◌, string_bytes}
 use Rattle.std.specs.declared.string.String.{String}
 use Rattle.std.specs.declared.alloc.Global.{Global}
+use Rattle.outside.specs.Outside.{Rose}
 use Rattle.storage_spec.specs.Found.{most_storage}
 use Rattle.region_report.specs.Reports.{ReportHeld}
 use Rattle.report_entry.specs.declared.laying.Layouts.{Layouts}
@@ -16,7 +17,7 @@ use Rattle.report_run.specs.declared.failures.Failure.TheVariants.{Memory, Unope
 use Rattle.report_run.specs.Messages.{Seen, IsMessage, IsCounted}
 use Rattle.report_run.specs.Reports.{IsReport, IsNoReport}
 use Rattle.report_run.specs.Saving.{IsSaved, IsUnsaved}
-use Rattle.report_run.specs.States.{State}
+use Rattle.report_run.specs.States.{State, Reads}
 use Rattle.report_run.specs.Memories.{IsMemoryDone, IsMemoryUndone}
 
 -- how much of a file is wanted
@@ -25,16 +26,18 @@ wanted (Some whole) layouts = Whole
 wanted None (Given plan) = Front plan.mem
 wanted None (Sought known) = Front most_storage
 
-abbrev pub IsUnopened : Failure → Type 0
-IsUnopened (Unopened why) = ⊤
-IsUnopened Memory = ⊤
-IsUnopened other = ⊥
+-- the system did not open it, or memory ran out
+abbrev pub IsUnopened : ℕ → ℕ → Failure → Type 0
+IsUnopened before now (Unopened why) = Rose before now
+IsUnopened before now Memory = now ≡ before
+IsUnopened before now other = ⊥
 
 -- ---- an image
 
 pub record IsImageDone (asked : Asked) (path : List ℕ) (holds : Option (List ℕ)) (a b : State) : Type 0 where
   pub report : ReportHeld
   pub reported : IsReport asked.layouts asked path holds a.out b.out a.errors b.errors report
+  pub no_fault : b.out_faults ≡ a.out_faults
   pub saved : IsSaved asked.saves report a.files b.files
 
 -- it was not reported: no file was made
@@ -45,15 +48,17 @@ pub record IsUnseen (asked : Asked) (path : List ℕ) (holds : Option (List ℕ)
   pub files_same : b.files ≡ a.files
 
 -- or it was reported, and its records were not saved
-pub record IsUnkept (asked : Asked) (path : List ℕ) (holds : Option (List ℕ)) (a b : State) (why : Failure)
-    : Type 0 where
+pub record IsUnkept (asked : Asked) (path : List ℕ) (holds : Option (List ℕ)) (read_before read_now : ℕ) (a b : State)
+    (why : Failure) : Type 0 where
   pub report : ReportHeld
   pub reported : IsReport asked.layouts asked path holds a.out b.out a.errors b.errors report
+  pub no_read_fault : read_now ≡ read_before
+  pub no_put_fault : b.out_faults ≡ a.out_faults
   pub cause : IsUnsaved asked.saves report a.files b.files why
 
 abbrev pub IsImageUndone : Asked → List ℕ → Option (List ℕ) → ℕ → ℕ → State → State → Failure → Type 0
 IsImageUndone asked path holds read_before read_now a b why =
-    IsUnseen asked path holds read_before read_now a b why ⊎ IsUnkept asked path holds a b why
+    IsUnseen asked path holds read_before read_now a b why ⊎ IsUnkept asked path holds read_before read_now a b why
 
 -- ---- a file: an image, or a whole memory
 
@@ -68,34 +73,38 @@ IsContentUndone None asked path holds read_before read_now a b why =
 IsContentUndone (Some whole) asked path holds read_before read_now a b why =
     IsMemoryUndone asked.layouts asked whole path holds read_before read_now a b why
 
-pub record IsDone (asked : Asked) (path : List ℕ) (holds : Option (List ℕ)) (a b : State) : Type 0 where
+pub record IsDone (asked : Asked) (path : List ℕ) (holds : Option (List ℕ)) (before now : Reads) (a b : State)
+    : Type 0 where
   pub done : IsContentDone asked.memory asked path holds a b
+  pub no_fault : now ≡ before
 
--- it could not be opened: nothing was done. `read_before` and `read_now` count the files that could not be read
-pub record IsClosed (read_before read_now : ℕ) (a b : State) (why : Failure) : Type 0 where
-  pub cause : IsUnopened why
-  pub unread : read_now ≡ read_before
-  pub out_same : b.out ≡ a.out
-  pub errors_same : b.errors ≡ a.errors
-  pub files_same : b.files ≡ a.files
+-- it could not be opened: nothing was done
+pub record IsClosed (before now : Reads) (a b : State) (why : Failure) : Type 0 where
+  pub cause : IsUnopened before.unopened now.unopened why
+  pub no_read_fault : now.unread ≡ before.unread
+  pub same : b ≡ a
 
--- or not all of what it holds was done
-abbrev pub IsUndone : Asked → List ℕ → Option (List ℕ) → ℕ → ℕ → State → State → Failure → Type 0
-IsUndone asked path holds read_before read_now a b why =
-    IsClosed read_before read_now a b why
-    ⊎ IsContentUndone asked.memory asked path holds read_before read_now a b why
+-- or it was opened, and not all of what it holds was done
+pub record IsHalfDone (asked : Asked) (path : List ℕ) (holds : Option (List ℕ)) (before now : Reads) (a b : State)
+    (why : Failure) : Type 0 where
+  pub opened : now.unopened ≡ before.unopened
+  pub undone : IsContentUndone asked.memory asked path holds before.unread now.unread a b why
+
+abbrev pub IsUndone : Asked → List ℕ → Option (List ℕ) → Reads → Reads → State → State → Failure → Type 0
+IsUndone asked path holds before now a b why =
+    IsClosed before now a b why ⊎ IsHalfDone asked path holds before now a b why
 
 -- and its message was told
-pub record IsFailed (asked : Asked) (path : List ℕ) (holds : Option (List ℕ)) (read_before read_now : ℕ) (a b : State)
+pub record IsFailed (asked : Asked) (path : List ℕ) (holds : Option (List ℕ)) (before now : Reads) (a b : State)
     : Type 0 where
   pub why : Failure
   pub between : Seen
-  pub undone : IsUndone asked path holds read_before read_now a (record b { errors = between }) why
+  pub undone : IsUndone asked path holds before now a (record b { errors = between }) why
   pub told : IsMessage path why between b.errors
 
-abbrev pub IsPath : Bool → Asked → List ℕ → Option (List ℕ) → ℕ → ℕ → State → State → Type 0
-IsPath true asked path holds read_before read_now a b = IsDone asked path holds a b
-IsPath false asked path holds read_before read_now a b = IsFailed asked path holds read_before read_now a b
+abbrev pub IsPath : Bool → Asked → List ℕ → Option (List ℕ) → Reads → Reads → State → State → Type 0
+IsPath true asked path holds before now a b = IsDone asked path holds before now a b
+IsPath false asked path holds before now a b = IsFailed asked path holds before now a b
 
 -- ---- one of several files: one that failed is remembered
 
@@ -103,13 +112,13 @@ IsPath false asked path holds read_before read_now a b = IsFailed asked path hol
 abbrev pub is_counted : Asked → ℕ → Bool
 is_counted asked all = asked.counts && nat_lt 1 all
 
-pub record IsStep (asked : Asked) (i all : ℕ) (path : List ℕ) (holds : Option (List ℕ)) (read_before read_now : ℕ)
+pub record IsStep (asked : Asked) (i all : ℕ) (path : List ℕ) (holds : Option (List ℕ)) (reads_before reads_now : Reads)
     (a b : State) (was now : Bool) : Type 0 where
-  pub later : read_before ≤ read_now
+  pub later : reads_before.unread ≤ reads_now.unread
   pub between : Seen
   pub counted : IsCounted (is_counted asked all) i all a.errors between
   pub done : Bool
-  pub is_path : IsPath done asked path holds read_before read_now (record a { errors = between }) b
+  pub is_path : IsPath done asked path holds reads_before reads_now (record a { errors = between }) b
   pub failed : now ≡ (was || not done)
 
 -- the status is 0 if all was done, and standard error took every line
@@ -117,11 +126,12 @@ abbrev pub status_of : Bool → Bool → ℕ
 status_of failed is_lost = if failed || is_lost then 1 else 0
 
 -- the files at these paths, from number i on, of so many
-unfoldable pub AreSteps : Asked → (List ℕ → Wanted → Option (List ℕ)) → ℕ → ℕ → List (String Global) → ℕ → State → Bool
-    → ℕ → State → Bool → Type 0
-AreSteps asked content all i [] read_before a was read_now b now = (read_now ≡ read_before) × (b ≡ a) × (now ≡ was)
-AreSteps asked content all i (path ∷ paths) read_before a was read_now b now =
-    (read_between : ℕ) × (m : State) × (failed : Bool)
+unfoldable pub AreSteps : Asked → (List ℕ → Wanted → Option (List ℕ)) → ℕ → ℕ → List (String Global) → Reads → State
+    → Bool → Reads → State → Bool → Type 0
+AreSteps asked content all i [] reads_before a was reads_now b now =
+    (reads_now ≡ reads_before) × (b ≡ a) × (now ≡ was)
+AreSteps asked content all i (path ∷ paths) reads_before a was reads_now b now =
+    (between : Reads) × (m : State) × (failed : Bool)
     × IsStep asked i all (string_bytes path) (content (string_bytes path) (wanted asked.memory asked.layouts))
-    read_before read_between a m was failed
-    × AreSteps asked content all (i + 1) paths read_between m failed read_now b now
+    reads_before between a m was failed
+    × AreSteps asked content all (i + 1) paths between m failed reads_now b now

@@ -36,8 +36,7 @@ pub record IsStorageShown (asked : Asked) (path : List ℕ) (h : HeldStorage) (g
     (report : ReportHeld) : Type 0 where
   pub between : Option (List ℕ)
   pub reported : IsReported asked.format path h (names_of (map_of asked.map)) asked.lines given between report
-  pub faults : ℕ
-  pub lines : TellsLayout asked.format (lines_on path h) between now faults faults a b
+  pub lines : TellsLayout asked.format (lines_on path h) between now a b
 
 -- memory ran out before
 pub record IsUnbegun (given now : Option (List ℕ)) (a b : Seen) (why : Failure) : Type 0 where

@@ -159,11 +159,12 @@ fn report_earlier<O: Sink>(
     log: &HeldLog,
     out: &mut O,
 ) -> Result<(), Failure>
-    ensures { let by = earlier_format asked.now.format in
+    ensures reported { let by = earlier_format asked.now.format in
         MatchResult result
         (λ _. AreEarlierShown by asked.now path.now log.now (O.given out.old) (O.given out.new))
         (AreEarlierUnshown by asked.now path.now log.now (O.given out.old) (O.given out.new) (O.faults out.old)
         (O.faults out.new)) }
+    ensures faultless { OnOk result (O.faults out.new ≡ O.faults out.old) }
 {
     match earlier_format(asked.format) {
         Some(format) => report_boots(alloc, asked, format, path, log, earlier(&log.boots), out),
@@ -185,6 +186,7 @@ pub fn report_log<O: Sink>(
         (IsLogShown asked.now path.now log.now (O.given out.old) (O.given out.new))
         (IsLogUnshown asked.now path.now log.now (O.given out.old) (O.given out.new) (O.faults out.old)
         (O.faults out.new)) }
+    ensures faultless { OnOk result (O.faults out.new ≡ O.faults out.old) }
 {
     let last = last_part(&log.text, &log.boots);
     let report = report_part(alloc, asked, asked.format, path, last, out)?;

@@ -1,9 +1,10 @@
 // Which regions of a whole memory are reported.
-ghost use Rattle.std.specs.Prelude.{◌≡◌, ◌≤◌, [], ◌∷◌, string_bytes, IfOk, MatchResult};
+ghost use Rattle.std.specs.Prelude.{◌≡◌, ◌≤◌, [], ◌∷◌, string_bytes, IfOk, OnOk, MatchResult};
+ghost use Rattle.report_run.specs.Failures.{IsUnread};
 ghost use Rattle.report_run.specs.Places.{regions_in, finding_lines};
 ghost use Rattle.report_run.specs.Messages.{seen};
 ghost use Rattle.report_run.specs.Choice.{IsThere, IsNotThere, is_html, must_choose, AreTaken, AreRefused, IsFoundBy};
-ghost use Rattle.report_run.specs.Choice.{IsUnread, AreFound, AreNotFound, AreChosen, AreUnchosen};
+ghost use Rattle.report_run.specs.Choice.{AreFound, AreNotFound, AreChosen, AreUnchosen};
 
 use crate::failures::{Failure, unread_failure};
 use crate::messages::Messages;
@@ -29,6 +30,7 @@ fn region_there<M: Load>(
 ) -> Result<Vec<Region>, Failure>
     ensures there { MatchResult result (λ regions. IsThere known.now place (M.holds memory.old) regions.items)
         (IsNotThere known.now place (M.holds memory.old) (M.faults memory.old) (M.faults memory.new)) }
+    ensures no_fault { OnOk result (M.faults memory.new ≡ M.faults memory.old) }
     ensures same { M.holds memory.new ≡ M.holds memory.old }
     ensures later { M.faults memory.old ≤ M.faults memory.new }
 {
@@ -98,6 +100,7 @@ fn searched<M: Load, W: Watch>(
 ) -> Result<Survey, Failure>
     ensures found { MatchResult result (IsFoundBy known.now path.now base (M.holds memory.old))
         (IsUnread (M.faults memory.old) (M.faults memory.new)) }
+    ensures no_fault { OnOk result (M.faults memory.new ≡ M.faults memory.old) }
     ensures same { M.holds memory.new ≡ M.holds memory.old }
     ensures later { M.faults memory.old ≤ M.faults memory.new }
 {
@@ -127,6 +130,7 @@ fn regions_found<M: Load, W: Watch, E: Sink>(
         (AreNotFound asked.now known.now path.now base (M.holds memory.old) (M.faults memory.old) (M.faults memory.new)
         (seen (E.given messages.old.errors) (E.faults messages.old.errors) messages.old.is_lost)
         (seen (E.given messages.new.errors) (E.faults messages.new.errors) messages.new.is_lost)) }
+    ensures no_fault { OnOk result (M.faults memory.new ≡ M.faults memory.old) }
     ensures same { M.holds memory.new ≡ M.holds memory.old }
     ensures later { M.faults memory.old ≤ M.faults memory.new }
 {
@@ -156,6 +160,7 @@ pub fn regions_asked<M: Load, W: Watch, E: Sink>(
         (M.faults memory.new)
         (seen (E.given messages.old.errors) (E.faults messages.old.errors) messages.old.is_lost)
         (seen (E.given messages.new.errors) (E.faults messages.new.errors) messages.new.is_lost)) }
+    ensures no_fault { OnOk result (M.faults memory.new ≡ M.faults memory.old) }
     ensures same { M.holds memory.new ≡ M.holds memory.old }
     ensures later { M.faults memory.old ≤ M.faults memory.new }
 {

@@ -29,13 +29,14 @@ pub fn tell_layout<O: Sink, E: Sink>(
     out: &mut O,
     messages: &mut Messages<E>,
 ) -> Result<(), Failure>
-    ensures { MatchResult result
-        (λ _. TellsLayout format lines.now (O.given out.old) (O.given out.new) (O.faults out.old) (O.faults out.new)
+    ensures told { MatchResult result
+        (λ _. TellsLayout format lines.now (O.given out.old) (O.given out.new)
         (seen (E.given messages.old.errors) (E.faults messages.old.errors) messages.old.is_lost)
         (seen (E.given messages.new.errors) (E.faults messages.new.errors) messages.new.is_lost))
         (IsNotTold format lines.now (O.given out.old) (O.given out.new) (O.faults out.old) (O.faults out.new)
         (seen (E.given messages.old.errors) (E.faults messages.old.errors) messages.old.is_lost)
         (seen (E.given messages.new.errors) (E.faults messages.new.errors) messages.new.is_lost)) }
+    ensures faultless { OnOk result (O.faults out.new ≡ O.faults out.old) }
 {
     match format {
         Format::Text => match out.put(lines.as_bytes()) {
@@ -63,6 +64,7 @@ pub fn report_by<M: Load, O: Sink>(
         (IsReported format path.now plan.now (M.holds image.old) (O.given out.old) (O.given out.new))
         (IsStopped format path.now plan.now (M.holds image.old) (M.faults image.old) (M.faults image.new)
         (O.given out.old) (O.given out.new) (O.faults out.old) (O.faults out.new)) }
+    ensures no_fault { OnOk result (M.faults image.new ≡ M.faults image.old) }
     ensures same { M.holds image.new ≡ M.holds image.old }
     ensures later { M.faults image.old ≤ M.faults image.new }
     ensures faultless { OnOk result (O.faults out.new ≡ O.faults out.old) }
@@ -91,6 +93,8 @@ fn sought_report<M: Load, O: Sink, E: Sink>(
         (O.given out.old) (O.given out.new) (O.faults out.old) (O.faults out.new)
         (seen (E.given messages.old.errors) (E.faults messages.old.errors) messages.old.is_lost)
         (seen (E.given messages.new.errors) (E.faults messages.new.errors) messages.new.is_lost)) }
+    ensures no_fault { OnOk result (M.faults image.new ≡ M.faults image.old) }
+    ensures faultless { OnOk result (O.faults out.new ≡ O.faults out.old) }
     ensures same { M.holds image.new ≡ M.holds image.old }
     ensures later { M.faults image.old ≤ M.faults image.new }
 {
@@ -118,6 +122,8 @@ fn unlogged_report<M: Load, O: Sink, E: Sink>(
         (M.faults image.new) (O.given out.old) (O.given out.new) (O.faults out.old) (O.faults out.new)
         (seen (E.given messages.old.errors) (E.faults messages.old.errors) messages.old.is_lost)
         (seen (E.given messages.new.errors) (E.faults messages.new.errors) messages.new.is_lost)) }
+    ensures no_fault { OnOk result (M.faults image.new ≡ M.faults image.old) }
+    ensures faultless { OnOk result (O.faults out.new ≡ O.faults out.old) }
     ensures same { M.holds image.new ≡ M.holds image.old }
     ensures later { M.faults image.old ≤ M.faults image.new }
 {
@@ -146,6 +152,8 @@ fn unknown_report<M: Load, O: Sink, E: Sink>(
         (M.faults image.new) (O.given out.old) (O.given out.new) (O.faults out.old) (O.faults out.new)
         (seen (E.given messages.old.errors) (E.faults messages.old.errors) messages.old.is_lost)
         (seen (E.given messages.new.errors) (E.faults messages.new.errors) messages.new.is_lost)) }
+    ensures no_fault { OnOk result (M.faults image.new ≡ M.faults image.old) }
+    ensures faultless { OnOk result (O.faults out.new ≡ O.faults out.old) }
     ensures same { M.holds image.new ≡ M.holds image.old }
     ensures later { M.faults image.old ≤ M.faults image.new }
 {
@@ -175,6 +183,8 @@ fn unlaid_report<M: Load, O: Sink, E: Sink>(
         (M.faults image.new) (O.given out.old) (O.given out.new) (O.faults out.old) (O.faults out.new)
         (seen (E.given messages.old.errors) (E.faults messages.old.errors) messages.old.is_lost)
         (seen (E.given messages.new.errors) (E.faults messages.new.errors) messages.new.is_lost)) }
+    ensures no_fault { OnOk result (M.faults image.new ≡ M.faults image.old) }
+    ensures faultless { OnOk result (O.faults out.new ≡ O.faults out.old) }
     ensures same { M.holds image.new ≡ M.holds image.old }
     ensures later { M.faults image.old ≤ M.faults image.new }
 {
@@ -205,6 +215,8 @@ pub fn report_image<M: Load, O: Sink, E: Sink>(
         (M.faults image.new) (O.given out.old) (O.given out.new) (O.faults out.old) (O.faults out.new)
         (seen (E.given messages.old.errors) (E.faults messages.old.errors) messages.old.is_lost)
         (seen (E.given messages.new.errors) (E.faults messages.new.errors) messages.new.is_lost)) }
+    ensures no_fault { OnOk result (M.faults image.new ≡ M.faults image.old) }
+    ensures faultless { OnOk result (O.faults out.new ≡ O.faults out.old) }
     ensures same { M.holds image.new ≡ M.holds image.old }
     ensures later { M.faults image.old ≤ M.faults image.new }
 {

@@ -1,5 +1,6 @@
 // An image that is a text log.
-ghost use Rattle.std.specs.Prelude.{◌≡◌, ◌≤◌, length, drop, IfSome, IfOk, IfErr};
+ghost use Rattle.std.specs.Prelude.{◌≡◌, ◌≤◌, length, drop, IfSome, IfOk, IfErr, OnOk};
+ghost use Rattle.report_run.specs.Failures.{IsUnread};
 ghost use Rattle.report_run.specs.Logs.{IsSeenLog, is_inside, line_len, whole_lines, text_in, IsLogOf, IsLooked};
 ghost use Rattle.report_run.specs.Logs.{IsUnlooked};
 
@@ -24,7 +25,8 @@ const MOST: u64 = 268_435_456;
 #[tactic(auto, using(crate::proofs::LogEnds::text_seen))]
 fn is_text<M: Load>(alloc: Global, image: &mut M) -> Result<bool, Failure>
     ensures seen { IfOk result (λ is. IsSeenLog is Logs.Texts (M.holds image.old)) }
-    ensures unlooked { IfErr result (IsUnlooked (M.faults image.old) (M.faults image.new)) }
+    ensures unlooked { IfErr result (IsUnread (M.faults image.old) (M.faults image.new)) }
+    ensures no_fault { OnOk result (M.faults image.new ≡ M.faults image.old) }
     ensures same { M.holds image.new ≡ M.holds image.old }
     ensures later { M.faults image.old ≤ M.faults image.new }
 {
@@ -36,7 +38,8 @@ fn is_text<M: Load>(alloc: Global, image: &mut M) -> Result<bool, Failure>
 
 fn is_log<M: Load>(alloc: Global, logs: Logs, image: &mut M) -> Result<bool, Failure>
     ensures seen { IfOk result (λ is. IsSeenLog is logs (M.holds image.old)) }
-    ensures unlooked { IfErr result (IsUnlooked (M.faults image.old) (M.faults image.new)) }
+    ensures unlooked { IfErr result (IsUnlooked logs (M.faults image.old) (M.faults image.new)) }
+    ensures no_fault { OnOk result (M.faults image.new ≡ M.faults image.old) }
     ensures same { M.holds image.new ≡ M.holds image.old }
     ensures later { M.faults image.old ≤ M.faults image.new }
 {
@@ -98,7 +101,8 @@ fn text_in(alloc: Global, is_cut: bool, bytes: Vec<u8>) -> Result<Vec<u8>, Alloc
 // A log, its place in the image, and its boots.
 fn log_of<M: Load>(alloc: Global, image: &mut M) -> Result<HeldLog, Failure>
     ensures held { IfOk result (λ l. IfSome (M.holds image.old) (λ bs. IsLogOf bs l)) }
-    ensures unlooked { IfErr result (IsUnlooked (M.faults image.old) (M.faults image.new)) }
+    ensures unlooked { IfErr result (IsUnread (M.faults image.old) (M.faults image.new)) }
+    ensures no_fault { OnOk result (M.faults image.new ≡ M.faults image.old) }
     ensures same { M.holds image.new ≡ M.holds image.old }
     ensures later { M.faults image.old ≤ M.faults image.new }
 {
@@ -122,7 +126,8 @@ pub fn held_log<M: Load>(
     image: &mut M,
 ) -> Result<Option<HeldLog>, Failure>
     ensures looked { IfOk result (IsLooked logs (M.holds image.old)) }
-    ensures unlooked { IfErr result (IsUnlooked (M.faults image.old) (M.faults image.new)) }
+    ensures unlooked { IfErr result (IsUnlooked logs (M.faults image.old) (M.faults image.new)) }
+    ensures no_fault { OnOk result (M.faults image.new ≡ M.faults image.old) }
     ensures same { M.holds image.new ≡ M.holds image.old }
     ensures later { M.faults image.old ≤ M.faults image.new }
 {

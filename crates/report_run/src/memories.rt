@@ -1,7 +1,7 @@
 // A whole memory: the regions in it, one after another.
-ghost use Rattle.std.specs.Prelude.{◌≡◌, ◌≤◌, ◌<◌, length, slice_get, Some, MatchResult};
+ghost use Rattle.std.specs.Prelude.{◌≡◌, ◌≤◌, ◌<◌, length, slice_get, Some, OnOk, MatchResult};
 ghost use Rattle.report_run.specs.Messages.{seen};
-ghost use Rattle.report_run.specs.States.{state};
+ghost use Rattle.report_run.specs.States.{folder, state};
 ghost use Rattle.report_run.specs.Memories.{IsNamedDone, IsNamedUndone, AreRegionsDone, AreRegionsUndone};
 ghost use Rattle.report_run.specs.Memories.{IsByGiven, IsNotByGiven, IsBySearch};
 ghost use Rattle.report_run.specs.Memories.{IsNotBySearch, IsMemoryDone, IsMemoryUndone};
@@ -33,14 +33,15 @@ fn report_named<M: Load, O: Sink, E: Sink, F: Records>(
 ) -> Result<(), Failure>
     ensures done { let before = state (O.given out.old) (O.faults out.old)
         (seen (E.given messages.old.errors) (E.faults messages.old.errors) messages.old.is_lost)
-        (F.made records.old) in
+        (folder (F.made records.old) (F.faults records.old)) in
         let after = state (O.given out.new) (O.faults out.new)
         (seen (E.given messages.new.errors) (E.faults messages.new.errors) messages.new.is_lost)
-        (F.made records.new) in
+        (folder (F.made records.new) (F.faults records.new)) in
         MatchResult result
         (λ _. IsNamedDone asked.now path.now base region.now (M.holds memory.old) before after)
         (IsNamedUndone asked.now path.now base region.now (M.holds memory.old) (M.faults memory.old)
         (M.faults memory.new) before after) }
+    ensures no_fault { OnOk result (M.faults memory.new ≡ M.faults memory.old) }
     ensures same { M.holds memory.new ≡ M.holds memory.old }
     ensures later { M.faults memory.old ≤ M.faults memory.new }
 {
@@ -69,14 +70,15 @@ fn report_regions<M: Load, O: Sink, E: Sink, F: Records>(
 ) -> Result<(), Failure>
     ensures done { let before = state (O.given out.old) (O.faults out.old)
         (seen (E.given messages.old.errors) (E.faults messages.old.errors) messages.old.is_lost)
-        (F.made records.old) in
+        (folder (F.made records.old) (F.faults records.old)) in
         let after = state (O.given out.new) (O.faults out.new)
         (seen (E.given messages.new.errors) (E.faults messages.new.errors) messages.new.is_lost)
-        (F.made records.new) in
+        (folder (F.made records.new) (F.faults records.new)) in
         MatchResult result
         (λ _. AreRegionsDone asked.now path.now base (M.holds memory.old) regions.now before after)
         (AreRegionsUndone asked.now path.now base (M.holds memory.old) (M.faults memory.old) (M.faults memory.new)
         regions.now before after) }
+    ensures no_fault { OnOk result (M.faults memory.new ≡ M.faults memory.old) }
     ensures same { M.holds memory.new ≡ M.holds memory.old }
     ensures later { M.faults memory.old ≤ M.faults memory.new }
 {
@@ -102,10 +104,13 @@ fn report_given<M: Load, O: Sink, F: Records>(
 ) -> Result<(), Failure>
     ensures done { MatchResult result
         (λ _. IsByGiven whole.place asked.now plan.now path.now whole.base (M.holds memory.old) (O.given out.old)
-        (O.given out.new) (F.made records.old) (F.made records.new))
+        (O.given out.new) (folder (F.made records.old) (F.faults records.old))
+        (folder (F.made records.new) (F.faults records.new)))
         (IsNotByGiven whole.place asked.now plan.now path.now whole.base (M.holds memory.old) (M.faults memory.old)
         (M.faults memory.new) (O.given out.old) (O.given out.new) (O.faults out.old) (O.faults out.new)
-        (F.made records.old) (F.made records.new)) }
+        (folder (F.made records.old) (F.faults records.old)) (folder (F.made records.new) (F.faults records.new))) }
+    ensures no_fault { OnOk result (M.faults memory.new ≡ M.faults memory.old) }
+    ensures faultless { OnOk result (O.faults out.new ≡ O.faults out.old) }
     ensures same { M.holds memory.new ≡ M.holds memory.old }
     ensures later { M.faults memory.old ≤ M.faults memory.new }
 {
@@ -131,14 +136,15 @@ fn report_sought<M: Load, W: Watch, O: Sink, E: Sink, F: Records>(
 ) -> Result<(), Failure>
     ensures done { let before = state (O.given out.old) (O.faults out.old)
         (seen (E.given messages.old.errors) (E.faults messages.old.errors) messages.old.is_lost)
-        (F.made records.old) in
+        (folder (F.made records.old) (F.faults records.old)) in
         let after = state (O.given out.new) (O.faults out.new)
         (seen (E.given messages.new.errors) (E.faults messages.new.errors) messages.new.is_lost)
-        (F.made records.new) in
+        (folder (F.made records.new) (F.faults records.new)) in
         MatchResult result
         (λ _. IsBySearch asked.now whole known.now path.now (M.holds memory.old) before after)
         (IsNotBySearch asked.now whole known.now path.now (M.holds memory.old) (M.faults memory.old)
         (M.faults memory.new) before after) }
+    ensures no_fault { OnOk result (M.faults memory.new ≡ M.faults memory.old) }
     ensures same { M.holds memory.new ≡ M.holds memory.old }
     ensures later { M.faults memory.old ≤ M.faults memory.new }
 {
@@ -164,14 +170,15 @@ pub fn report_memory<M: Load, W: Watch, O: Sink, E: Sink, F: Records>(
 ) -> Result<(), Failure>
     ensures done { let before = state (O.given out.old) (O.faults out.old)
         (seen (E.given messages.old.errors) (E.faults messages.old.errors) messages.old.is_lost)
-        (F.made records.old) in
+        (folder (F.made records.old) (F.faults records.old)) in
         let after = state (O.given out.new) (O.faults out.new)
         (seen (E.given messages.new.errors) (E.faults messages.new.errors) messages.new.is_lost)
-        (F.made records.new) in
+        (folder (F.made records.new) (F.faults records.new)) in
         MatchResult result
         (λ _. IsMemoryDone asked.now.layouts asked.now whole path.now (M.holds memory.old) before after)
         (IsMemoryUndone asked.now.layouts asked.now whole path.now (M.holds memory.old) (M.faults memory.old)
         (M.faults memory.new) before after) }
+    ensures no_fault { OnOk result (M.faults memory.new ≡ M.faults memory.old) }
     ensures same { M.holds memory.new ≡ M.holds memory.old }
     ensures later { M.faults memory.old ≤ M.faults memory.new }
 {

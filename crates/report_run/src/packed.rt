@@ -1,5 +1,5 @@
 // A record that pstore left packed: the report of its text.
-ghost use Rattle.std.specs.Prelude.{◌≡◌, ◌≤◌, IfOk, IfErr, MatchResult};
+ghost use Rattle.std.specs.Prelude.{◌≡◌, ◌≤◌, IfOk, IfErr, OnOk, MatchResult};
 ghost use Rattle.report_run.specs.Messages.{seen};
 ghost use Rattle.report_run.specs.Packed.{takes_logs, is_packed, IsPackedLog, IsUninflated, IsPackedReport};
 ghost use Rattle.report_run.specs.Packed.{IsNoPackedReport};
@@ -42,6 +42,7 @@ pub struct PackedLog {
 fn packed_log<M: Load>(alloc: Global, image: &mut M) -> Result<PackedLog, Failure>
     ensures held { IfOk result (IsPackedLog (M.holds image.old)) }
     ensures unheld { IfErr result (IsUninflated (M.holds image.old) (M.faults image.old) (M.faults image.new)) }
+    ensures no_fault { OnOk result (M.faults image.new ≡ M.faults image.old) }
     ensures same { M.holds image.new ≡ M.holds image.old }
     ensures later { M.faults image.old ≤ M.faults image.new }
 {
@@ -74,6 +75,8 @@ pub fn report_packed<M: Load, O: Sink, E: Sink>(
         (O.given out.old) (O.given out.new) (O.faults out.old) (O.faults out.new)
         (seen (E.given messages.old.errors) (E.faults messages.old.errors) messages.old.is_lost)
         (seen (E.given messages.new.errors) (E.faults messages.new.errors) messages.new.is_lost)) }
+    ensures no_fault { OnOk result (M.faults image.new ≡ M.faults image.old) }
+    ensures faultless { OnOk result (O.faults out.new ≡ O.faults out.old) }
     ensures same { M.holds image.new ≡ M.holds image.old }
     ensures later { M.faults image.old ≤ M.faults image.new }
 {

@@ -1,11 +1,11 @@
 // The plan by which an image is read whose layout is looked for.
-ghost use Rattle.std.specs.Prelude.{◌≡◌, ◌≤◌, take, IfOk, IfErr, IfSome, MatchResult};
+ghost use Rattle.std.specs.Prelude.{◌≡◌, ◌≤◌, take, IfOk, IfErr, IfSome, OnOk, MatchResult};
 ghost use Rattle.std.specs.Option.{option_copied};
 ghost use Rattle.zone_spec.specs.Numbers.{most_memory};
 ghost use Rattle.layout_search.specs.Answers.{IsSearched};
 ghost use Rattle.report_run.specs.Messages.{seen};
 ghost use Rattle.report_run.specs.Looking.{is_unfinished, IsLook, MayLookAt, IsLooking, MayLook};
-ghost use Rattle.report_run.specs.Logs.{IsUnlooked};
+ghost use Rattle.report_run.specs.Failures.{IsUnread};
 ghost use Rattle.report_run.specs.Plans.{format_for, dressed, map_of};
 ghost use Rattle.report_run.specs.Plans.{untaken_failure, IsSoughtPlan, IsNotSought, IsAskedPlan};
 
@@ -155,7 +155,7 @@ fn layout_in<M: Load, E: Sink>(
 ) -> Result<Option<Found>, Failure>
     ensures found { IfOk result (λ found. IfSome (M.holds image.old) (λ bs.
         IsSearched known.now (take most_memory bs) found)) }
-    ensures unfound { IfErr result (IsUnlooked (M.faults image.old) (M.faults image.new)) }
+    ensures unfound { IfErr result (IsUnread (M.faults image.old) (M.faults image.new)) }
     ensures looked { MatchResult result
         (λ _. IsLooking known.now path.now (M.holds image.old)
         (seen (E.given messages.old.errors) (E.faults messages.old.errors) messages.old.is_lost)
@@ -163,6 +163,7 @@ fn layout_in<M: Load, E: Sink>(
         (λ _. MayLook known.now path.now (M.holds image.old)
         (seen (E.given messages.old.errors) (E.faults messages.old.errors) messages.old.is_lost)
         (seen (E.given messages.new.errors) (E.faults messages.new.errors) messages.new.is_lost)) }
+    ensures no_fault { OnOk result (M.faults image.new ≡ M.faults image.old) }
     ensures same { M.holds image.new ≡ M.holds image.old }
     ensures later { M.faults image.old ≤ M.faults image.new }
 {
@@ -193,6 +194,7 @@ fn found_plan<M: Load, E: Sink>(
         (λ _. MayLook known.now path.now (M.holds image.old)
         (seen (E.given messages.old.errors) (E.faults messages.old.errors) messages.old.is_lost)
         (seen (E.given messages.new.errors) (E.faults messages.new.errors) messages.new.is_lost)) }
+    ensures no_fault { OnOk result (M.faults image.new ≡ M.faults image.old) }
     ensures same { M.holds image.new ≡ M.holds image.old }
     ensures later { M.faults image.old ≤ M.faults image.new }
 {
@@ -227,6 +229,7 @@ pub fn sought_plan<M: Load, E: Sink>(
         (λ _. MayLook known.now path.now (M.holds image.old)
         (seen (E.given messages.old.errors) (E.faults messages.old.errors) messages.old.is_lost)
         (seen (E.given messages.new.errors) (E.faults messages.new.errors) messages.new.is_lost)) }
+    ensures no_fault { OnOk result (M.faults image.new ≡ M.faults image.old) }
     ensures same { M.holds image.new ≡ M.holds image.old }
     ensures later { M.faults image.old ≤ M.faults image.new }
 {

@@ -3,7 +3,7 @@ ghost use Rattle.std.specs.Prelude.{◌≡◌, ◌≤◌, string_bytes, IfOk, If
 ghost use Rattle.report_tool.specs.Images.{IsReported};
 ghost use Rattle.report_run.specs.Images.{IsStoppedAt, TellsLayout, IsNotTold};
 ghost use Rattle.report_run.specs.Messages.{seen};
-ghost use Rattle.report_run.specs.States.{state};
+ghost use Rattle.report_run.specs.States.{folder, state};
 ghost use Rattle.report_run.specs.Regions.{IsHeld, IsUnheld, IsPlaceDone, IsPlaceUndone, AreRegionLines, IsRegionPlan};
 ghost use Rattle.report_run.specs.Regions.{IsRegionTold, IsRegionDone, IsRegionUndone};
 
@@ -31,6 +31,7 @@ fn bytes_at<M: Load>(
 ) -> Result<Vec<u8>, Failure>
     ensures held { IfOk result (λ v. IsHeld place size (M.holds memory.old) v.items) }
     ensures unheld { IfErr result (IsUnheld place size (M.holds memory.old) (M.faults memory.old) (M.faults memory.new)) }
+    ensures no_fault { OnOk result (M.faults memory.new ≡ M.faults memory.old) }
     ensures same { M.holds memory.new ≡ M.holds memory.old }
     ensures later { M.faults memory.old ≤ M.faults memory.new }
 {
@@ -78,10 +79,11 @@ pub fn report_place<M: Load, O: Sink, F: Records>(
 ) -> Result<(), Failure>
     ensures done { MatchResult result
         (λ _. IsPlaceDone asked.now plan.now name.now place (M.holds memory.old) (O.given out.old) (O.given out.new)
-        (F.made records.old) (F.made records.new))
+        (folder (F.made records.old) (F.faults records.old)) (folder (F.made records.new) (F.faults records.new)))
         (IsPlaceUndone asked.now plan.now name.now place (M.holds memory.old) (M.faults memory.old)
         (M.faults memory.new) (O.given out.old) (O.given out.new) (O.faults out.old) (O.faults out.new)
-        (F.made records.old) (F.made records.new)) }
+        (folder (F.made records.old) (F.faults records.old)) (folder (F.made records.new) (F.faults records.new))) }
+    ensures no_fault { OnOk result (M.faults memory.new ≡ M.faults memory.old) }
     ensures same { M.holds memory.new ≡ M.holds memory.old }
     ensures later { M.faults memory.old ≤ M.faults memory.new }
     ensures faultless { OnOk result (O.faults out.new ≡ O.faults out.old) }
@@ -139,15 +141,15 @@ fn tell_region<O: Sink, E: Sink>(
     out: &mut O,
     messages: &mut Messages<E>,
 ) -> Result<(), Failure>
-    ensures { MatchResult result
-        (λ _. TellsLayout format (string_bytes told.now.lines) (O.given out.old) (O.given out.new) (O.faults out.old)
-        (O.faults out.new)
+    ensures told { MatchResult result
+        (λ _. TellsLayout format (string_bytes told.now.lines) (O.given out.old) (O.given out.new)
         (seen (E.given messages.old.errors) (E.faults messages.old.errors) messages.old.is_lost)
         (seen (E.given messages.new.errors) (E.faults messages.new.errors) messages.new.is_lost))
         (IsNotTold format (string_bytes told.now.lines) (O.given out.old) (O.given out.new) (O.faults out.old)
         (O.faults out.new)
         (seen (E.given messages.old.errors) (E.faults messages.old.errors) messages.old.is_lost)
         (seen (E.given messages.new.errors) (E.faults messages.new.errors) messages.new.is_lost)) }
+    ensures faultless { OnOk result (O.faults out.new ≡ O.faults out.old) }
 {
     tell_layout(format, &told.lines, out, messages)
 }
@@ -165,14 +167,15 @@ pub fn report_region<M: Load, O: Sink, E: Sink, F: Records>(
 ) -> Result<(), Failure>
     ensures done { let before = state (O.given out.old) (O.faults out.old)
         (seen (E.given messages.old.errors) (E.faults messages.old.errors) messages.old.is_lost)
-        (F.made records.old) in
+        (folder (F.made records.old) (F.faults records.old)) in
         let after = state (O.given out.new) (O.faults out.new)
         (seen (E.given messages.new.errors) (E.faults messages.new.errors) messages.new.is_lost)
-        (F.made records.new) in
+        (folder (F.made records.new) (F.faults records.new)) in
         MatchResult result
         (λ _. IsRegionDone asked.now name.now region.now (M.holds memory.old) before after)
         (IsRegionUndone asked.now name.now region.now (M.holds memory.old) (M.faults memory.old) (M.faults memory.new)
         before after) }
+    ensures no_fault { OnOk result (M.faults memory.new ≡ M.faults memory.old) }
     ensures same { M.holds memory.new ≡ M.holds memory.old }
     ensures later { M.faults memory.old ≤ M.faults memory.new }
 {

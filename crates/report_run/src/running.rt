@@ -1,7 +1,8 @@
 // Files, one after another.
-ghost use Rattle.std.specs.Prelude.{◌≡◌, ◌≤◌, ℕ, not, ◌||◌, List, Option, IfOk, IfErr, MatchResult, false, length};
+ghost use Rattle.std.specs.Prelude.{◌≡◌, ◌≤◌, ℕ, not, ◌||◌, List, Option, IfOk, IfErr, OnOk, MatchResult, false};
+ghost use Rattle.std.specs.Prelude.{length};
 ghost use Rattle.report_run.specs.Messages.{seen};
-ghost use Rattle.report_run.specs.States.{state};
+ghost use Rattle.report_run.specs.States.{folder, reads, state};
 ghost use Rattle.report_run.specs.Runs.{wanted, IsUnopened, IsImageDone, IsImageUndone, IsContentDone, IsContentUndone};
 ghost use Rattle.report_run.specs.Runs.{IsDone, IsUndone, IsPath, is_counted, IsStep, AreSteps, status_of};
 
@@ -28,20 +29,26 @@ pub trait Images {
     // What the file at a path holds, of which so much is wanted, where that is told.
     ghost content: { Self → List ℕ → Wanted → Option (List ℕ) };
 
+    // How often a file was not opened.
+    ghost unopened: { Self → ℕ };
+
     // How often files that were closed have failed.
     ghost faults: { Self → ℕ };
 
-    /// Opens the file at a path, of which so much is wanted. Its faults are counted on from those of the files before.
+    /// Opens the file at a path, of which so much is wanted, or answers why it is not opened. Its faults are counted on
+    /// from those of the files before.
     fn open(&mut self, path: &str, wanted: Wanted) -> Result<Self::Image, Failure>
         ensures held { IfOk result (λ image. Self.Image.holds image ≡ content self.old path.now wanted) }
         ensures counted { IfOk result (λ image. Self.Image.faults image ≡ faults self.old) }
-        ensures why { IfErr result IsUnopened }
+        ensures opened { OnOk result (unopened self.new ≡ unopened self.old) }
+        ensures why { IfErr result (IsUnopened (unopened self.old) (unopened self.new)) }
         ensures same { content self.new ≡ content self.old }
         ensures no_fault { faults self.new ≡ faults self.old };
 
     /// Closes a file that was opened.
     fn close(&mut self, image: Self::Image)
         ensures counted { faults self.new ≡ Self.Image.faults image }
+        ensures opened { unopened self.new ≡ unopened self.old }
         ensures same { content self.new ≡ content self.old };
 }
 
@@ -67,11 +74,14 @@ fn one_image<M: Load, O: Sink, E: Sink, F: Records>(
     records: &mut F,
 ) -> Result<(), Failure>
     ensures done { let before = state (O.given out.old) (O.faults out.old)
-        (seen (E.given messages.old.errors) (E.faults messages.old.errors) messages.old.is_lost) (F.made records.old) in
+        (seen (E.given messages.old.errors) (E.faults messages.old.errors) messages.old.is_lost)
+        (folder (F.made records.old) (F.faults records.old)) in
         let after = state (O.given out.new) (O.faults out.new)
-        (seen (E.given messages.new.errors) (E.faults messages.new.errors) messages.new.is_lost) (F.made records.new) in
+        (seen (E.given messages.new.errors) (E.faults messages.new.errors) messages.new.is_lost)
+        (folder (F.made records.new) (F.faults records.new)) in
         MatchResult result (λ _. IsImageDone asked.now path.now (M.holds image.old) before after)
         (IsImageUndone asked.now path.now (M.holds image.old) (M.faults image.old) (M.faults image.new) before after) }
+    ensures no_fault { OnOk result (M.faults image.new ≡ M.faults image.old) }
     ensures later { M.faults image.old ≤ M.faults image.new }
 {
     let report = report_image(alloc, asked, path, image, out, messages)?;
@@ -91,13 +101,16 @@ fn one_content<M: Load, W: Watch, O: Sink, E: Sink, F: Records>(
     records: &mut F,
 ) -> Result<(), Failure>
     ensures done { let before = state (O.given out.old) (O.faults out.old)
-        (seen (E.given messages.old.errors) (E.faults messages.old.errors) messages.old.is_lost) (F.made records.old) in
+        (seen (E.given messages.old.errors) (E.faults messages.old.errors) messages.old.is_lost)
+        (folder (F.made records.old) (F.faults records.old)) in
         let after = state (O.given out.new) (O.faults out.new)
-        (seen (E.given messages.new.errors) (E.faults messages.new.errors) messages.new.is_lost) (F.made records.new) in
+        (seen (E.given messages.new.errors) (E.faults messages.new.errors) messages.new.is_lost)
+        (folder (F.made records.new) (F.faults records.new)) in
         MatchResult result
         (λ _. IsContentDone asked.now.memory asked.now path.now (M.holds image.old) before after)
         (IsContentUndone asked.now.memory asked.now path.now (M.holds image.old) (M.faults image.old)
         (M.faults image.new) before after) }
+    ensures no_fault { OnOk result (M.faults image.new ≡ M.faults image.old) }
     ensures later { M.faults image.old ≤ M.faults image.new }
 {
     match asked.memory {
@@ -120,12 +133,16 @@ fn one_file<I: Images, W: Watch, O: Sink, E: Sink, F: Records>(
     records: &mut F,
 ) -> Result<(), Failure>
     ensures done { let before = state (O.given out.old) (O.faults out.old)
-        (seen (E.given messages.old.errors) (E.faults messages.old.errors) messages.old.is_lost) (F.made records.old) in
+        (seen (E.given messages.old.errors) (E.faults messages.old.errors) messages.old.is_lost)
+        (folder (F.made records.old) (F.faults records.old)) in
         let after = state (O.given out.new) (O.faults out.new)
-        (seen (E.given messages.new.errors) (E.faults messages.new.errors) messages.new.is_lost) (F.made records.new) in
+        (seen (E.given messages.new.errors) (E.faults messages.new.errors) messages.new.is_lost)
+        (folder (F.made records.new) (F.faults records.new)) in
         let holds = I.content images.old path.now (wanted asked.now.memory asked.now.layouts) in
-        MatchResult result (λ _. IsDone asked.now path.now holds before after)
-        (IsUndone asked.now path.now holds (I.faults images.old) (I.faults images.new) before after) }
+        let reads_before = reads (I.unopened images.old) (I.faults images.old) in
+        let reads_now = reads (I.unopened images.new) (I.faults images.new) in
+        MatchResult result (λ _. IsDone asked.now path.now holds reads_before reads_now before after)
+        (IsUndone asked.now path.now holds reads_before reads_now before after) }
     ensures same { I.content images.new ≡ I.content images.old }
     ensures later { I.faults images.old ≤ I.faults images.new }
 {
@@ -150,11 +167,14 @@ fn one_path<I: Images, W: Watch, O: Sink, E: Sink, F: Records>(
     records: &mut F,
 ) -> bool
     ensures done { let before = state (O.given out.old) (O.faults out.old)
-        (seen (E.given messages.old.errors) (E.faults messages.old.errors) messages.old.is_lost) (F.made records.old) in
+        (seen (E.given messages.old.errors) (E.faults messages.old.errors) messages.old.is_lost)
+        (folder (F.made records.old) (F.faults records.old)) in
         let after = state (O.given out.new) (O.faults out.new)
-        (seen (E.given messages.new.errors) (E.faults messages.new.errors) messages.new.is_lost) (F.made records.new) in
+        (seen (E.given messages.new.errors) (E.faults messages.new.errors) messages.new.is_lost)
+        (folder (F.made records.new) (F.faults records.new)) in
         let holds = I.content images.old path.now (wanted asked.now.memory asked.now.layouts) in
-        IsPath result asked.now path.now holds (I.faults images.old) (I.faults images.new) before after }
+        IsPath result asked.now path.now holds (reads (I.unopened images.old) (I.faults images.old))
+        (reads (I.unopened images.new) (I.faults images.new)) before after }
     ensures same { I.content images.new ≡ I.content images.old }
     ensures later { I.faults images.old ≤ I.faults images.new }
 {
@@ -167,7 +187,8 @@ fn one_path<I: Images, W: Watch, O: Sink, E: Sink, F: Records>(
     }
 }
 
-fn is_counted(asked: &Asked, all: usize) -> bool
+/// Whether it is told how many of so many files are done.
+pub fn is_counted(asked: &Asked, all: usize) -> bool
     ensures { result ≡ is_counted asked.now all }
 {
     asked.counts && all > 1
@@ -195,11 +216,14 @@ fn report_path<I: Images, W: Watch, O: Sink, E: Sink, F: Records>(
     failed: bool,
 ) -> bool
     ensures step { let before = state (O.given out.old) (O.faults out.old)
-        (seen (E.given messages.old.errors) (E.faults messages.old.errors) messages.old.is_lost) (F.made records.old) in
+        (seen (E.given messages.old.errors) (E.faults messages.old.errors) messages.old.is_lost)
+        (folder (F.made records.old) (F.faults records.old)) in
         let after = state (O.given out.new) (O.faults out.new)
-        (seen (E.given messages.new.errors) (E.faults messages.new.errors) messages.new.is_lost) (F.made records.new) in
+        (seen (E.given messages.new.errors) (E.faults messages.new.errors) messages.new.is_lost)
+        (folder (F.made records.new) (F.faults records.new)) in
         let holds = I.content images.old path.now (wanted asked.now.memory asked.now.layouts) in
-        IsStep asked.now i all path.now holds (I.faults images.old) (I.faults images.new) before after failed result }
+        IsStep asked.now i all path.now holds (reads (I.unopened images.old) (I.faults images.old))
+        (reads (I.unopened images.new) (I.faults images.new)) before after failed result }
     ensures same { I.content images.new ≡ I.content images.old }
 {
     messages.tell_count(is_counted(asked, all), i, all);
@@ -227,11 +251,14 @@ pub fn run<I: Images, W: Watch, O: Sink, E: Sink, F: Records>(
     records: &mut F,
 ) -> bool
     ensures { let before = state (O.given out.old) (O.faults out.old)
-        (seen (E.given messages.old.errors) (E.faults messages.old.errors) messages.old.is_lost) (F.made records.old) in
+        (seen (E.given messages.old.errors) (E.faults messages.old.errors) messages.old.is_lost)
+        (folder (F.made records.old) (F.faults records.old)) in
         let after = state (O.given out.new) (O.faults out.new)
-        (seen (E.given messages.new.errors) (E.faults messages.new.errors) messages.new.is_lost) (F.made records.new) in
-        AreSteps asked.now (I.content images.old) (length paths.now) 0 paths.now (I.faults images.old) before false
-        (I.faults images.new) after result }
+        (seen (E.given messages.new.errors) (E.faults messages.new.errors) messages.new.is_lost)
+        (folder (F.made records.new) (F.faults records.new)) in
+        AreSteps asked.now (I.content images.old) (length paths.now) 0 paths.now
+        (reads (I.unopened images.old) (I.faults images.old)) before false
+        (reads (I.unopened images.new) (I.faults images.new)) after result }
 {
     let mut failed = false;
     for i in 0..paths.len() {

@@ -1,5 +1,5 @@
 // An image that is a storage.
-ghost use Rattle.std.specs.Prelude.{◌≡◌, ◌≤◌, IfOk, IfErr, MatchResult};
+ghost use Rattle.std.specs.Prelude.{◌≡◌, ◌≤◌, IfOk, IfErr, OnOk, MatchResult};
 ghost use Rattle.report_run.specs.Messages.{seen};
 ghost use Rattle.report_run.specs.Plans.{map_of};
 ghost use Rattle.storage_report.specs.Held.{IsLookedAt};
@@ -34,6 +34,7 @@ pub fn storage_of<M: Load>(
 ) -> Result<Option<HeldStorage>, Failure>
     ensures looked { IfOk result (IsLookedAt storages (M.holds image.old)) }
     ensures unlooked { IfErr result (IsUnfound storages (M.holds image.old) (M.faults image.old) (M.faults image.new)) }
+    ensures no_fault { OnOk result (M.faults image.new ≡ M.faults image.old) }
     ensures same { M.holds image.new ≡ M.holds image.old }
     ensures later { M.faults image.old ≤ M.faults image.new }
 {
@@ -62,7 +63,7 @@ pub fn report_storage<O: Sink, E: Sink>(
     out: &mut O,
     messages: &mut Messages<E>,
 ) -> Result<Report, Failure>
-    ensures { MatchResult result
+    ensures reported { MatchResult result
         (IsStorageShown asked.now path.now held.now (O.given out.old) (O.given out.new)
         (seen (E.given messages.old.errors) (E.faults messages.old.errors) messages.old.is_lost)
         (seen (E.given messages.new.errors) (E.faults messages.new.errors) messages.new.is_lost))
@@ -70,6 +71,7 @@ pub fn report_storage<O: Sink, E: Sink>(
         (O.faults out.new)
         (seen (E.given messages.old.errors) (E.faults messages.old.errors) messages.old.is_lost)
         (seen (E.given messages.new.errors) (E.faults messages.new.errors) messages.new.is_lost)) }
+    ensures faultless { OnOk result (O.faults out.new ≡ O.faults out.old) }
 {
     let lines = held.lines(alloc, path)?;
     let symbols = functions(alloc, &asked.map)?;

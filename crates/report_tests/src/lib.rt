@@ -24,6 +24,8 @@ mod report_text_tests;
 #[cfg(test)]
 mod report_tool_tests;
 #[cfg(test)]
+mod tree_tests;
+#[cfg(test)]
 mod whole_reports;
 #[cfg(test)]
 mod worked_deaths;

@@ -2,8 +2,13 @@
 use crate::packed_dumps::{self, DAMAGED, WHOLE};
 use crate::whole_reports::{console, line_of, report_on};
 use crate::worked_deaths::{self, CONSOLE, FATAL, NAMED, NONE, OOPS, PANIC};
+use outside::Bytes;
+use prz_read::{Logs, Reading, ZoneParts};
+use ramoops_layout::layout;
+use region_report::{Origin, PartState, Report};
 use std::alloc::Global;
 use std::test::Fail;
+use zone_spec::{State, Words};
 
 // The line of an image of one console zone, whose record is this text.
 fn line_of_console(alloc: Global, text: &[u8]) -> Result<String, Fail> {
@@ -119,5 +124,49 @@ fn warnings(rt: HostRuntime) -> Result<(), Fail> {
         let line = line_of(rt.alloc(), "a", &worked_deaths::PARAMS, &report)?;
         assert!(rt; line.as_str().contains(told), "{told}");
     }
+    Ok(())
+}
+
+// What a boot reads of an empty zone, and how its header reads.
+fn empty_zone(alloc: Global) -> (Reading, ZoneParts) {
+    let reading = Reading {
+        state: State::Empty,
+        words: Words {
+            sig: 0x43474244,
+            start: 0,
+            size: 0,
+        },
+        log: Bytes::from_vec(Vec::new(alloc)),
+        corrected: 0,
+        bad: 0,
+    };
+    let parts = ZoneParts {
+        header: PartState::Read(0),
+        blocks: Vec::new(alloc),
+    };
+    (reading, parts)
+}
+
+// A report without records on a console whose reading was forgotten.
+fn forgotten(alloc: Global) -> Result<Report, Fail> {
+    let layout = layout(alloc, &console(0))?;
+    if layout.zones().is_empty() {
+        return Err(Fail::from("no zone"));
+    }
+    let (reading, parts) = empty_zone(alloc);
+    let mut logs = Logs::new(alloc, &layout)?;
+    logs.push(reading);
+    logs.forget(0);
+    let mut all = Vec::new(alloc);
+    all.push(parts)?;
+    Ok(Report::of_zones(Origin::Region, logs, all, Vec::new(alloc)))
+}
+
+// A zone without a reading is null.
+#[test]
+fn zone_without_a_reading(rt: HostRuntime) -> Result<(), Fail> {
+    let report = forgotten(rt.alloc())?;
+    let line = line_of(rt.alloc(), "a", &console(0), &report)?;
+    assert!(rt; line.as_str().ends_with("\"zones\":[null]}"));
     Ok(())
 }

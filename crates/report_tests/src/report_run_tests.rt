@@ -9,11 +9,13 @@ use report_tool::{Format, Known, known};
 use std::alloc::Global;
 use std::test::Fail;
 
-// One file, whatever its path.
+// One file, whatever its path, or none.
 #[derive(Drop)]
 struct Held {
     alloc: Global,
     bytes: Bytes,
+    is_missing: bool,
+    unopened: u64,
 }
 
 impl Images for Held {
@@ -21,26 +23,41 @@ impl Images for Held {
 
     ghost content = { λ s _ _. Some s.bytes };
 
+    ghost unopened = { λ s. s.unopened };
+
     ghost faults = { λ _. 0 };
 
     fn open(&mut self, _path: &str, _wanted: Wanted) -> Result<ReadOnly, Failure> {
+        if self.is_missing {
+            let why = String::from_str(self.alloc, "it is missing")?;
+            self.unopened = self.unopened.saturating_add(1);
+            return Err(Failure::Unopened(why));
+        }
         Ok(ReadOnly::new(Vec::from_slice(self.alloc, self.bytes.as_slice())?))
     }
 
     fn close(&mut self, _image: ReadOnly) {}
 }
 
-// A folder that takes every record.
+// A folder that takes every record, or none.
 #[derive(Drop)]
 struct Taken {
-    count: usize,
+    alloc: Global,
+    is_full: bool,
+    faults: u64,
 }
 
 impl Records for Taken {
     ghost made = { λ _. None };
 
+    ghost faults = { λ s. s.faults };
+
     fn save(&mut self, _report: &Report) -> Result<(), Failure> {
-        self.count = self.count.saturating_add(1);
+        if self.is_full {
+            let why = String::from_str(self.alloc, "the folder is full")?;
+            self.faults = self.faults.saturating_add(1);
+            return Err(Failure::Unsaved(why));
+        }
         Ok(())
     }
 }
@@ -53,19 +70,27 @@ impl Watch for Unwatched {
     fn reached(&mut self, _done: u64, _all: u64) {}
 }
 
-// What is known of the layout: a console of a page, and no other zone.
-fn one_console(alloc: Global) -> Result<Known, Fail> {
+// What these words say of the layout.
+fn known_by(alloc: Global, given: &[&str]) -> Result<Known, Fail> {
     let mut words = Vec::new(alloc);
-    for word in [
-        "record_size=0",
-        "console_size=4096",
-        "ftrace_size=0",
-        "pmsg_size=0",
-        "ecc=0",
-    ] {
+    for word in given.iter().copied() {
         words.push(String::from_str(alloc, word)?)?;
     }
     Ok(known(&words))
+}
+
+// What is known of the layout: a console of a page, and no other zone.
+fn one_console(alloc: Global) -> Result<Known, Fail> {
+    known_by(
+        alloc,
+        &[
+            "record_size=0",
+            "console_size=4096",
+            "ftrace_size=0",
+            "pmsg_size=0",
+            "ecc=0",
+        ],
+    )
 }
 
 fn asked(
@@ -113,15 +138,33 @@ fn run_within(
     bytes: Vec<u8>,
     room: u32,
 ) -> Result<Done, Fail> {
-    let mut paths = Vec::new(alloc);
-    paths.push(String::from_str(alloc, path)?)?;
-    let mut held = Held {
+    let held = Held {
         alloc,
         bytes: Bytes::from_vec(bytes),
+        is_missing: false,
+        unopened: 0,
     };
+    run_over(alloc, asked, path, held, false, room)
+}
+
+// Of one file, with a folder for its records that may be full.
+fn run_over(
+    alloc: Global,
+    asked: &Asked,
+    path: &str,
+    mut held: Held,
+    is_full: bool,
+    room: u32,
+) -> Result<Done, Fail> {
+    let mut paths = Vec::new(alloc);
+    paths.push(String::from_str(alloc, path)?)?;
     let mut out = sink(alloc, room)?;
     let mut messages = Messages::new(sink(alloc, 65_536)?);
-    let mut taken = Taken { count: 0 };
+    let mut taken = Taken {
+        alloc,
+        is_full,
+        faults: 0,
+    };
     let has_failed = run(
         alloc,
         asked,
@@ -137,6 +180,18 @@ fn run_within(
         errors: Vec::from_slice(alloc, messages.errors.bytes())?,
         has_failed,
     })
+}
+
+// A text log that tells of a panic, as a file that may be missing, saved in a folder that may be full.
+fn run_refused(alloc: Global, is_missing: bool, is_full: bool) -> Result<Done, Fail> {
+    let held = Held {
+        alloc,
+        bytes: Bytes::from_vec(Vec::from_slice(alloc, b"Kernel panic - not syncing: one\n")?),
+        is_missing,
+        unopened: 0,
+    };
+    let asked = asked(known(&[]), Format::Brief, Logs::Texts, None, true);
+    run_over(alloc, &asked, "file", held, is_full, 65_536)
 }
 
 fn run_on(alloc: Global, asked: &Asked, bytes: Vec<u8>) -> Result<Done, Fail> {
@@ -172,6 +227,51 @@ fn a_region_of_a_memory(rt: HostRuntime) -> Result<(), Fail> {
     let done = run_on(rt.alloc(), &asked, memory_of(rt.alloc(), &[2])?)?;
     let line = "\nfile@0xa000: 4096 bytes; layout found: ";
     let is_told = begins_and_has(&done.out, "no death: ", line)?;
+    assert!(rt; is_told && done.errors.is_empty() && !done.has_failed);
+    Ok(())
+}
+
+// A zone that begins with these bytes, and zeros.
+fn add_zone(bytes: &mut Vec<u8>, front: &[u8], size: usize) -> Result<(), Fail> {
+    let end = bytes.len().saturating_add(size);
+    bytes.extend_from_slice(front)?;
+    bytes.resize(end, 0)?;
+    Ok(())
+}
+
+// A page of zeros, and a region of 1 MiB as a kernel lays it out for record_size=0x20000: seven dumps of 148,040 bytes
+// without a log, a console, a trace and a pmsg of 4,096, and eight bytes. Only the first zone begins at a page.
+fn uneven_region(alloc: Global) -> Result<Vec<u8>, Fail> {
+    let mut bytes = Vec::new(alloc);
+    add_zone(&mut bytes, &[], 4_096)?;
+    for _ in 0..7 {
+        add_zone(&mut bytes, b"DBGC", 148_040)?;
+    }
+    let console = b"DBGC\x21\0\0\0\x21\0\0\0Kernel panic - not syncing: gone\n";
+    add_zone(&mut bytes, console, 4_096)?;
+    add_zone(&mut bytes, b"DBEC", 4_096)?;
+    add_zone(&mut bytes, b"DBGC", 4_096)?;
+    add_zone(&mut bytes, &[], 8)?;
+    Ok(bytes)
+}
+
+#[test]
+fn a_region_whose_zones_begin_at_no_page(rt: HostRuntime) -> Result<(), Fail> {
+    let known = known_by(
+        rt.alloc(),
+        &[
+            "console_size=4096",
+            "ftrace_size=4096",
+            "pmsg_size=4096",
+            "ecc=0",
+            "cpus=1",
+        ],
+    )?;
+    let asked = asked(known, Format::Text, Logs::Never, Some(WHOLE), false);
+    let done = run_on(rt.alloc(), &asked, uneven_region(rt.alloc())?)?;
+    let line = "\nfile@0x9000: 1048576 bytes; layout found: record_size=131072 console_size=4096 ";
+    let died = "died: Kernel panic - not syncing: gone\n";
+    let is_told = begins_and_has(&done.out, died, line)?;
     assert!(rt; is_told && done.errors.is_empty() && !done.has_failed);
     Ok(())
 }
@@ -225,6 +325,29 @@ fn logs_with_zero_bytes(rt: HostRuntime) -> Result<(), Fail> {
         assert!(rt; done.has_failed != is_log);
         let has_panic = begins_and_has(&done.out, "died: Kernel panic", "console-ramoops-0\n")?;
         assert!(rt; has_panic == is_log);
+    }
+    Ok(())
+}
+
+#[test]
+fn a_file_that_is_missing(rt: HostRuntime) -> Result<(), Fail> {
+    let done = run_refused(rt.alloc(), true, false)?;
+    assert!(rt; done.errors.as_slice() == b"oopsreport: file: it is missing\n".as_slice());
+    assert!(rt; done.out.is_empty() && done.has_failed);
+    Ok(())
+}
+
+// It is reported all the same.
+#[test]
+fn records_that_are_not_saved(rt: HostRuntime) -> Result<(), Fail> {
+    let line = b"file  -  kernel panic: one\n".as_slice();
+    for (is_full, errors) in [
+        (false, b"".as_slice()),
+        (true, b"oopsreport: file: the folder is full\n".as_slice()),
+    ] {
+        let done = run_refused(rt.alloc(), false, is_full)?;
+        assert!(rt; done.out.as_slice() == line && done.errors.as_slice() == errors);
+        assert!(rt; done.has_failed == is_full);
     }
     Ok(())
 }

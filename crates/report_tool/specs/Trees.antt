@@ -34,6 +34,25 @@ abbrev pub numbers_meant : Option (List ℕ) → List Ramoops → Result Numbers
 numbers_meant None nodes = only_numbers nodes
 numbers_meant (Some path) nodes = numbers_found (find (λ node. bytes_eq node.path path) nodes)
 
+-- why a tree has no nodes to choose from
+abbrev pub HasNoNodes : List ℕ → TreeFault → Type 0
+HasNoNodes tree Memory = Unit {0}
+HasNoNodes tree (Tree fault) = nodes_of tree ≡ Err fault
+HasNoNodes tree other = ⊥
+
+-- the address of the node of this path, or of the only one
+abbrev pub address_of : Result Numbers TreeFault → Result ℕ TreeFault
+address_of (Err fault) = Err fault
+address_of (Ok n) = Ok n.address
+
+abbrev pub address_in : Option (List ℕ) → Result (List Ramoops) Fault → Result ℕ TreeFault
+address_in path (Err fault) = Err (Tree fault)
+address_in path (Ok nodes) = address_of (numbers_meant path nodes)
+
+abbrev pub IsNoAddress : List ℕ → Option (List ℕ) → TreeFault → Type 0
+IsNoAddress tree path Memory = Unit {0}
+IsNoAddress tree path other = address_in path (nodes_of tree) ≡ Err other
+
 -- what a node says: all of its region, parity in bytes
 abbrev pub params_said : Numbers → Params
 params_said n = record {

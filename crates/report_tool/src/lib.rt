@@ -24,6 +24,6 @@ pub use layout_search::{Candidate, Found, Known};
 pub use plan::{Plan, PlanFault};
 pub use saving::{Folder, save};
 pub use showing::{Format, shown_zones};
-pub use tree::TreeFault;
+pub use tree::{TreeFault, tree_address};
 pub use version::{add_order, add_tag, ftrace_tag, zone_order};
 pub use words::{layout_words, push_number};

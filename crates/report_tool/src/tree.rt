@@ -7,7 +7,8 @@ ghost use Rattle.grammar_spec.specs.ZoneWords.{given as given_by};
 ghost use Rattle.dtb_spec.specs.Ramoops.{nodes_of};
 ghost use Rattle.dtb.specs.ReaderAnswers.{shown};
 ghost use Rattle.report_tool.specs.Trees.{numbers_found, only_numbers, numbers_meant, params_said, wants_cpus};
-ghost use Rattle.report_tool.specs.Trees.{params_over, params_in, IsTreePlan, IsTreeFault};
+ghost use Rattle.report_tool.specs.Trees.{params_over, params_in, IsTreePlan, IsTreeFault, HasNoNodes, address_in};
+ghost use Rattle.report_tool.specs.Trees.{IsNoAddress};
 
 use crate::Plan;
 use dtb::{DtbError, Fault, Node, Numbers, ramoops_nodes};
@@ -119,6 +120,28 @@ fn params_over(words: &[String], n: &Numbers) -> Result<Params, TreeFault>
     Ok(params)
 }
 
+// The ramoops nodes of a tree.
+fn nodes_in(alloc: Global, tree: &[u8]) -> Result<Vec<Node>, TreeFault>
+    ensures { MatchResult result (λ nodes. nodes_of tree.now ≡ Ok (map shown nodes.items)) (HasNoNodes tree.now) }
+{
+    match ramoops_nodes(alloc, tree) {
+        Ok(nodes) => Ok(nodes),
+        Err(DtbError::Memory) => Err(TreeFault::Memory),
+        Err(DtbError::Broken(fault)) => Err(TreeFault::Tree(fault)),
+    }
+}
+
+/// The address of the region that a board's flattened device tree names: of its only ramoops node, or of the node of
+/// this path.
+pub fn tree_address(alloc: Global, tree: &[u8], path: Option<&str>) -> Result<u64, TreeFault>
+    ensures { MatchResult result (λ address. address_in (option_copied path.entry) (nodes_of tree.now) ≡ Ok address)
+        (IsNoAddress tree.now (option_copied path.entry)) }
+{
+    let nodes = nodes_in(alloc, tree)?;
+    let numbers = meant(&nodes, path)?;
+    Ok(numbers.address)
+}
+
 // The parameters of a tree, the path of its node and words.
 fn params_in(
     alloc: Global,
@@ -129,11 +152,7 @@ fn params_in(
     ensures { MatchResult result (λ p. params_in (option_copied path.entry) words.now (nodes_of tree.now) ≡ Ok p)
         (IsTreeFault tree.now (option_copied path.entry) words.now) }
 {
-    let nodes = match ramoops_nodes(alloc, tree) {
-        Ok(nodes) => nodes,
-        Err(DtbError::Memory) => return Err(TreeFault::Memory),
-        Err(DtbError::Broken(fault)) => return Err(TreeFault::Tree(fault)),
-    };
+    let nodes = nodes_in(alloc, tree)?;
     let numbers = meant(&nodes, path)?;
     params_over(words, &numbers)
 }

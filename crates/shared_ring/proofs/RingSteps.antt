@@ -25,7 +25,8 @@ use Rattle.shared_laws.proofs.Seats.{one_more_operation, places_follow_first, sh
 use Rattle.shared_ring.specs.declared.seats.Seat.{Seat}
 use Rattle.shared_ring.specs.Seats.{is_of, call_of, shown_seat, one_more, seats_stepped, next_of}
 use Rattle.shared_ring.specs.Seen.{SharedSeen, bytes_of, words_seen, StandsFor, IsLeftBy, seated, stepped, words_store}
-use Rattle.shared_ring.specs.Seen.{byte_store, IsStepped}
+use Rattle.shared_ring.specs.Seen.{byte_store, reserving, next_store, IsStepped}
+use Rattle.prz_region.specs.CutRegion.{stored}
 use Rattle.shared_ring.proofs.SeatLists.{more_cases, each_stepped, set_pieces}
 use Rattle.shared_ring.proofs.Tickets.{AreRising, after_own}
 use Rattle.prz_region.proofs.Cuts.{spans-length}
@@ -216,6 +217,35 @@ pub left_idle : (h : History) (v : SharedSeen) (t : ℕ) → IsLeftBy h v → po
 left_idle h v t l e = left_as h (StoreNext t) v (shared_zone h) l.can
     (ap (λ (o : Option SharedCall). stepped_if o h.zone (shared_zone h) t)
     (no_call h.zone h.image (shared_zone h) v l.stands t e)) l.stands
+
+-- ---- the stores, in the words of a history
+
+pub reserved_in : (h : History) (v : SharedSeen) (payload : List ℕ) → IsLeftBy h v
+    → (seated v payload).region ≡ stored v.region v.place (reserving h.zone (shared_zone h) payload ∷ [])
+reserved_in h v payload l =
+    ap (λ (y : Zone). stored v.region v.place (words_store y.byte_order
+    (((standing_words y (bytes_of v)).start + length payload) % y.cap)
+    (min y.cap ((standing_words y (bytes_of v)).size + length payload)) ∷ [])) l.stands.zone
+    ∙ ap (λ (bytes : List ℕ). stored v.region v.place (words_store h.zone.byte_order
+    (((standing_words h.zone bytes).start + length payload) % h.zone.cap)
+    (min h.zone.cap ((standing_words h.zone bytes).size + length payload)) ∷ [])) l.stands.bytes
+
+pub stepped_in : (h : History) (v : SharedSeen) (i t : ℕ) (x : Seat) (c : SharedCall) → IsLeftBy h v
+    → slice_get v.seats i ≡ Some x → x.ticket ≡ t → open_call (shared_zone h).calls t ≡ Some c
+    → (stepped v i x).region ≡ stored v.region v.place (next_store h.zone (shared_zone h) t c ∷ [])
+stepped_in h v i t x c l e q is =
+    let call : call_of x ≡ c = (let there = l.stands.seated i x e in
+    let here = ap (open_call (shared_zone h).calls) q in cc (there, here, is)) in
+    ap (λ (y : Zone). stored v.region v.place
+    (byte_store ((x.place + x.stored) % y.cap) (slice_index x.payload x.stored) ∷ [])) l.stands.zone
+    ∙ ap (λ (p : ℕ). stored v.region v.place (byte_store p (slice_index x.payload x.stored) ∷ []))
+    (ap (λ p. (p + x.stored) % h.zone.cap) (sym (seat_place h.zone h.image (shared_zone h) v l.stands i x e))
+    ∙ sym (places_follow_first h.zone (shared_zone h) x.ticket x.stored))
+    ∙ ap₂ (λ (n : ℕ) (d : SharedCall). stored v.region v.place (next_store h.zone (shared_zone h) n d ∷ [])) q call
+
+pub none_open : (h : History) (v : SharedSeen) (t : ℕ) (c : SharedCall) → IsLeftBy h v
+    → position (is_of t) v.seats ≡ None → open_call (shared_zone h).calls t ≡ Some c → ⊥
+none_open h v t c l e is = (let none = no_call h.zone h.image (shared_zone h) v l.stands t e in cc (none, is))
 
 -- ---- answers
 

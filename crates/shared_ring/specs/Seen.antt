@@ -13,8 +13,8 @@ use Rattle.prz_region.specs.CutRegion.{CutRegion, span, stored}
 use Rattle.shared_spec.specs.declared.NoCall.{NoCall}
 use Rattle.shared_spec.specs.declared.Next.{Next}
 use Rattle.shared_spec.specs.declared.SharedRefusal.{SharedRefusal}
-use Rattle.shared_spec.specs.Calls.{open_call}
-use Rattle.shared_spec.specs.Machine.{SharedZone, CanShare, open_calls}
+use Rattle.shared_spec.specs.Calls.{SharedCall, open_call}
+use Rattle.shared_spec.specs.Machine.{SharedZone, CanShare, call_place, open_calls}
 use Rattle.shared_spec.specs.Histories.{History, shared_zone}
 use Rattle.shared_ring.specs.declared.seats.Seat.{Seat}
 use Rattle.shared_ring.specs.Seats.{call_of, shown_seat, AreSeats, seats_stepped}
@@ -76,6 +76,20 @@ words_store order start size = record { place = 4; bytes = word_bytes order star
 -- one store of a data byte
 abbrev pub byte_store : ℕ → ℕ → Store
 byte_store place b = record { place = 12 + place; bytes = b ∷ [] }
+
+-- one store was made into the zone, this one, and none elsewhere
+abbrev pub HasStored : SharedSeen → SharedSeen → Store → Type 0
+HasStored old new s = new.region ≡ stored old.region old.place (s ∷ [])
+
+-- the store of a reservation: the words of the ring to which the payload is appended
+abbrev pub reserving : Zone → SharedZone → List ℕ → Store
+reserving z shared payload = words_store z.byte_order
+    (((standing_words z shared.image).start + length payload) % z.cap)
+    (min z.cap ((standing_words z shared.image).size + length payload))
+
+-- the store of a step: the call's next byte, at its place
+abbrev pub next_store : Zone → SharedZone → ℕ → SharedCall → Store
+next_store z shared ticket c = byte_store (call_place z shared ticket c.stored) (slice_index c.payload c.stored)
 
 -- after a reservation, which is one store
 abbrev pub seated : SharedSeen → List ℕ → SharedSeen

@@ -5,13 +5,14 @@ ghost use Rattle.zone_spec.specs.Parts.{standing_words};
 ghost use Rattle.ramoops_layout.specs.Laid.{params_of, zones_of};
 ghost use Rattle.zone_spec.specs.Reading.{zone_reading};
 ghost use Rattle.machine_spec.specs.Zones.{zone_bytes};
-ghost use Rattle.shared_spec.specs.Calls.{open_count, open_call};
+ghost use Rattle.shared_spec.specs.Calls.{SharedCall, open_count, open_call};
 ghost use Rattle.shared_spec.specs.Machine.{refusal as refusal_of, step_answer, full_list, open_calls as open_calls_of};
 ghost use Rattle.shared_spec.specs.Runs.{Reserve, StoreNext};
 ghost use Rattle.shared_spec.specs.Histories.{History, CanOpen, shared_zone, and_then, image_left};
 ghost use Rattle.shared_ring.specs.declared.seats.Seat.{Seat as ASeat};
 ghost use Rattle.shared_ring.specs.Seats.{next_of};
 ghost use Rattle.shared_ring.specs.Seen.{IsLeftBy, stores, words_seen, seated, stepped, IsReserved, IsStepped};
+ghost use Rattle.shared_ring.specs.Seen.{HasStored, reserving, next_store};
 
 use crate::seats::{Seat, count_stored, find, held, next_byte, show};
 use arrayvec::ArrayVec;
@@ -181,6 +182,8 @@ impl Shared {
             → IsReserved (refusal_of h.zone (shared_zone h).calls (length payload)) (length (shared_zone h).calls)
             payload result }
         ensures stores { OnOk result (stores self.new ≡ stores self.old + 1) }
+        ensures stored { (h : History) → IsLeftBy h self.old
+            → OnOk result (HasStored self.old self.new (reserving h.zone (shared_zone h) payload)) }
         ensures refused { OnErr result (self.new ≡ self.old) }
     {
         match self.refusal(payload.len()) {
@@ -206,6 +209,9 @@ impl Shared {
         ensures answer { (h : History) → IsLeftBy h self.old
             → IsStepped (step_answer (open_call (shared_zone h).calls ticket)) result }
         ensures stores { OnOk result (stores self.new ≡ stores self.old + 1) }
+        ensures stored { (h : History) (c : SharedCall) → IsLeftBy h self.old
+            → open_call (shared_zone h).calls ticket ≡ Some c
+            → HasStored self.old self.new (next_store h.zone (shared_zone h) ticket c) }
         ensures refused { OnErr result (self.new ≡ self.old) }
     {
         match find(&self.seats, ticket) {

@@ -12,6 +12,11 @@ use Rattle.storage_examples.specs.Told.{SizesRow, CpusRow, TiedRow, NotTiedRow, 
 use Rattle.storage_examples.specs.Told.{FaultLinesRow, HasDumpRow, NoPanicRow, BigSizesRow, BigHasDumpRow}
 use Rattle.storage_examples.specs.Told.{OtherOrderRow}
 use Rattle.storage_examples.specs.Records.{BigHeldRow, BigFoundRow, BigZoneRow}
+use Rattle.psz_spec.specs.Marks.{mark_at, order_at, order_from, marks_from, gcd_in, gcd, step_after, step_of, rings_of, shown_sizes}
+use Rattle.psz_spec.specs.Marks.{little_machine}
+use Rattle.psz_examples.specs.Marks.{odd_storage}
+use Rattle.storage_spec.specs.Found.{storage_in}
+use Rattle.storage_examples.specs.Found.{OddDumpRow}
 
 pub held : HeldRow
 unfolding digits listed_in storage storage_zones word dump_header state_of total_line
@@ -97,3 +102,8 @@ big_has_dump = refl
 pub other_order : OtherOrderRow
 unfolding big_storage big_zones word dump_header state_of
 other_order = refl
+
+pub odd_dump : OddDumpRow
+unfolding word mark_at order_at order_from marks_from gcd_in gcd step_after step_of rings_of shown_sizes little_machine
+    storage_in odd_storage
+odd_dump = refl

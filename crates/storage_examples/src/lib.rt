@@ -6,6 +6,7 @@ ghost use Rattle.storage_examples.specs.Told.{SizesRow, CpusRow, TiedRow, NotTie
 ghost use Rattle.storage_examples.specs.Told.{FaultLinesRow, HasDumpRow, NoPanicRow, BigSizesRow, BigHasDumpRow};
 ghost use Rattle.storage_examples.specs.Told.{OtherOrderRow};
 ghost use Rattle.storage_examples.specs.Records.{BigHeldRow, BigFoundRow, BigZoneRow};
+ghost use Rattle.storage_examples.specs.Found.{OddDumpRow};
 
 /// The records of small storages, their times, and how zones read.
 pub fn records()
@@ -19,6 +20,11 @@ pub fn records()
     ensures big_held { BigHeldRow }
     ensures big_found { BigFoundRow }
     ensures big_zone { BigZoneRow }
+{}
+
+/// A storage that its bytes do not show.
+pub fn found()
+    ensures { OddDumpRow }
 {}
 
 /// The lines on storages.

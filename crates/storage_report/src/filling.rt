@@ -117,6 +117,7 @@ pub(crate) fn copy_of<M: Load>(
     ensures reads { IfOk result (λ copy. IfSome (M.holds image.old)
         (λ bs. ReadTheSame storage.now (take total bs) copy.items)) }
     ensures err { IfErr result (λ s. FrontStop s (M.faults image.old) (M.faults image.new)) }
+    ensures no_fault { OnOk result (M.faults image.new ≡ M.faults image.old) }
     ensures same { M.holds image.new ≡ M.holds image.old }
     ensures later { M.faults image.old ≤ M.faults image.new }
 {

@@ -52,6 +52,7 @@ fn held<M: Load>(
     ensures shows { IfOk result (λ h. IfSome (M.holds image.old)
         (λ bs. ShowsTheSame storage (take total bs) h.bytes.items)) }
     ensures err { IfErr result (λ s. FrontStop s (M.faults image.old) (M.faults image.new)) }
+    ensures no_fault { OnOk result (M.faults image.new ≡ M.faults image.old) }
     ensures same { M.holds image.new ≡ M.holds image.old }
     ensures later { M.faults image.old ≤ M.faults image.new }
 {
@@ -74,6 +75,7 @@ fn shown_by(total: u32, seen: &Seen) -> Option<Storage>
 fn shown_storage<M: Load>(alloc: Global, image: &mut M) -> Result<Option<HeldStorage>, Stop>
     ensures held { IfOk result (IsHeld (M.holds image.old)) }
     ensures err { IfErr result (λ s. FrontStop s (M.faults image.old) (M.faults image.new)) }
+    ensures no_fault { OnOk result (M.faults image.new ≡ M.faults image.old) }
     ensures same { M.holds image.new ≡ M.holds image.old }
     ensures later { M.faults image.old ≤ M.faults image.new }
 {
@@ -103,6 +105,7 @@ fn divided_storage<M: Load>(
 ) -> Result<HeldStorage, NoStorage>
     ensures divided { MatchResult result (IsDivided sizes.now (M.holds image.old))
         (IsUndivided sizes.now (M.holds image.old) (M.faults image.old) (M.faults image.new)) }
+    ensures no_fault { OnOk result (M.faults image.new ≡ M.faults image.old) }
     ensures same { M.holds image.new ≡ M.holds image.old }
     ensures later { M.faults image.old ≤ M.faults image.new }
 {
@@ -131,6 +134,7 @@ pub fn held_storage<M: Load>(
 ) -> Result<Option<HeldStorage>, NoStorage>
     ensures looked { MatchResult result (IsLookedAt storages (M.holds image.old))
         (IsNotLookedAt storages (M.holds image.old) (M.faults image.old) (M.faults image.new)) }
+    ensures no_fault { OnOk result (M.faults image.new ≡ M.faults image.old) }
     ensures same { M.holds image.new ≡ M.holds image.old }
     ensures later { M.faults image.old ≤ M.faults image.new }
 {

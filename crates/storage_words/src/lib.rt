@@ -1,12 +1,12 @@
 //! The sizes of a storage that the kernel's pstore_zone wrote, in words as pstore_blk takes them (`fs/pstore/blk.c`), and
-//! the storage that they divide.
+//! why some divide no storage.
 #![tactic(auto)]
 
 mod division;
 mod laws;
 mod words;
 
-pub use division::{size_fault_number, size_fault_text, storage_of};
+pub use division::{size_fault_number, size_fault_text};
 pub use laws::words_compute;
 use psz_spec::Sizes;
 pub use words::{is_of_storage, storages_by};

@@ -11,7 +11,7 @@ mod telling;
 mod traces;
 mod zones;
 
-pub use finding::{storage_by, storage_in};
+pub use finding::storage_by;
 pub use laws::few_bytes_are_a_report;
 pub use listing::held_records;
 pub use storage_spec::Storage;

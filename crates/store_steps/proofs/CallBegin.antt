@@ -125,7 +125,7 @@ module _ (z : Zone) (w : Words) (valid : IsValidZone z) (ring : IsRing w z.cap) 
     short = omega arith;
     line = line;
     number = omega arith;
-    within = tt;
+    within = refl;
   }
 
   pub starts : (call : Call) → IsOpenFor call w z.cap → length (line_of call) ≤ 36 → Starts (started z w call)

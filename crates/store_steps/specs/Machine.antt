@@ -129,6 +129,12 @@ IsParity Finished = ⊥
 abbrev pub IsSameData : Zone → List ℕ → List ℕ → Type 0
 IsSameData z a b = take (12 + z.cap) a ≡ take (12 + z.cap) b
 
+-- other bytes of the zone, to which the same stores come next as to the image: any bytes, but where parity comes next
+-- they have its header and data
+pub record IsAlike (f : Flying) (image now : List ℕ) : Type 0 where
+  pub bytes : AreBytes image → AreBytes now
+  pub parity : IsParity f.place.phase → IsSameData f.zone now image
+
 -- the next n stores of the flight's phase
 abbrev pub next_stores : Flying → List ℕ → ℕ → List Store
 next_stores f image n = take n (drop f.place.number (stores_of f image f.place.phase))

@@ -51,14 +51,14 @@ IsDone f = f.place.number ≡ phase_len f f.place.phase
 abbrev pub IsFinished : Flying → Type 0
 IsFinished f = f.place.phase ≡ Finished
 
--- where the block may be
+-- where the part and the block may be
 abbrev pub IsWithin : Flying → Phase → Type 0
-IsWithin f ZeroStart = Unit {0}
-IsWithin f ZeroSize = Unit {0}
+IsWithin f ZeroStart = f.place.leg ≡ Erasure
+IsWithin f ZeroSize = f.place.leg ≡ Erasure
 IsWithin f Size = 0 < length (payload f)
 IsWithin f Start = 0 < length (payload f)
 IsWithin f First = 0 < length (payload f)
-IsWithin f FirstParity = f.place.block < first_end f
+IsWithin f FirstParity = (f.place.start / f.zone.block ≤ f.place.block) × (f.place.block < first_end f)
 IsWithin f Second = 0 < second_len f
 IsWithin f SecondParity = f.place.block < second_end f
 IsWithin f HeaderPhase = Unit {0}

@@ -17,9 +17,10 @@ whole_handed w payload =
     ++ (byte_stores w.place (take w.first (drop w.from payload))
     ++ byte_stores 12 (take w.second (drop (w.from + w.first) payload)))
 
--- within a zone of so many bytes, and within the payload
+-- within a zone of so many bytes, and within the payload; the first run has bytes
 pub record IsWholeInside (size : ℕ) (w : Whole) (payload : List ℕ) : Type 0 where
   pub words : 12 ≤ size
+  pub some : 0 < w.first
   pub first : w.place + w.first ≤ size
   pub second : 12 + w.second ≤ size
   pub bytes : w.from + w.first + w.second ≤ length payload

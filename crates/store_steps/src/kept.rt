@@ -123,7 +123,16 @@ impl Steps {
         of_phase as u64 + behind
     }
 
-    /// Whether the block, or the run, of this phase is one of the part's.
+    fn is_erasing(&self) -> bool
+        ensures { IsTrue result ↔ (self.now.place.leg ≡ Leg.Erasure) }
+    {
+        match self.place.leg {
+            Leg::Erasure => true,
+            _ => false,
+        }
+    }
+
+    /// Whether the part has this phase, and the block, or the run, is one of the part's.
     fn is_within(&self, line: &[u8], payload: &[u8]) -> bool
         requires valid { IsValidZone self.now.zone }
         requires below { self.now.place.start < self.now.zone.cap }
@@ -131,12 +140,15 @@ impl Steps {
         ensures { IsTrue result ↔ IsWithin (flying self.now line.now payload.now) self.now.place.phase }
     {
         match self.place.phase {
-            Phase::ZeroStart => true,
-            Phase::ZeroSize => true,
+            Phase::ZeroStart => self.is_erasing(),
+            Phase::ZeroSize => self.is_erasing(),
             Phase::Size => 0 < self.payload_len(line, payload),
             Phase::Start => 0 < self.payload_len(line, payload),
             Phase::First => 0 < self.payload_len(line, payload),
-            Phase::FirstParity => self.place.block < self.first_end(line, payload),
+            Phase::FirstParity => {
+                let first = whole_blocks(&self.zone, self.place.start);
+                first <= self.place.block && self.place.block < self.first_end(line, payload)
+            }
             Phase::Second => 0 < self.second_len(line, payload),
             Phase::SecondParity => self.place.block < self.second_end(line, payload),
             Phase::Header => true,

@@ -1,6 +1,6 @@
 // The machine of phases: what the next store of a call is.
 ghost use Rattle.std.specs.Prelude.{◌≡◌, ◌+◌, ◌-◌, ◌*◌, ◌/◌, ◌%◌, ◌<◌, ◌≤◌, ◌^◌, false, List, ℕ, length, take, drop};
-ghost use Rattle.std.specs.Prelude.{IsTrue, ◌↔◌, min};
+ghost use Rattle.std.specs.Prelude.{IsTrue, ◌↔◌, ◌++◌, min};
 ghost use Rattle.std.specs.Prelude.{IfSome, IsSome};
 ghost use Rattle.rs_encode.specs.Lanes.{IsLent};
 ghost use Rattle.zone_spec.specs.Parts.{AreBytes, Header, Block, standing_words};
@@ -37,7 +37,7 @@ impl Steps {
     ghost use Rattle.store_steps.specs.Phases.{IsSound, IsPlaced, IsFinished, IsDone, first_len, second_len, first_end};
     ghost use Rattle.store_steps.specs.Phases.{second_end, phase_len};
     ghost use Rattle.store_steps.specs.Machine.{Enters, next_stores, IsKept, StandsFor, IsSettled, IsParity};
-    ghost use Rattle.store_steps.specs.Machine.{IsSameData};
+    ghost use Rattle.store_steps.specs.Machine.{IsSameData, IsAlike, stores_left};
     ghost use Rattle.store_steps.specs.Counts.{pairs_of, total_of, touched_runs};
     ghost use Rattle.store_steps.specs.Handed.{handed, handed_count, IsInside};
     ghost use Rattle.zone_spec.specs.Calls.{call_stores};
@@ -553,6 +553,10 @@ impl Steps {
             → StandsFor (flying self.old line.now payload.now) now before
             → StandsFor (flying self.new line.now payload.now)
             (after_stores now (next_stores (flying self.old line.now payload.now) now count)) before }
+        ensures coming { (now : List ℕ) → AreBytes now → stores_left (flying self.old line.now payload.now) now
+            ≡ next_stores (flying self.old line.now payload.now) now count
+            ++ stores_left (flying self.new line.now payload.now)
+            (after_stores now (next_stores (flying self.old line.now payload.now) now count)) }
     {
         self.place.number += count;
         self.made += count as u64;
@@ -583,6 +587,9 @@ impl Steps {
             → StandsFor (flying self.old line.now payload.now) now before
             → StandsFor (flying self.new line.now payload.now)
             (after_stores now (handed out.new line.now payload.now)) before }
+        ensures coming { (now : List ℕ) → AreBytes now → stores_left (flying self.old line.now payload.now) now
+            ≡ handed out.new line.now payload.now ++ stores_left (flying self.new line.now payload.now)
+            (after_stores now (handed out.new line.now payload.now)) }
         ensures finished { (out.new.given ≡ Given.Nothing)
             ↔ (self.old.made ≡ total_of (flying self.old line.now payload.now)) }
     {
@@ -634,6 +641,9 @@ impl Steps {
             → StandsFor (flying self.old line.now payload.now) now before
             → StandsFor (flying self.new line.now payload.now)
             (after_stores now (handed out.new line.now payload.now)) before }
+        ensures coming { stores_left (flying self.old line.now payload.now) image.now
+            ≡ handed out.new line.now payload.now ++ stores_left (flying self.new line.now payload.now)
+            (after_stores image.now (handed out.new line.now payload.now)) }
     {
         let count = self.next_count(line, payload, most);
         self.give_parities(table, image, line, payload, count, out);
@@ -641,8 +651,9 @@ impl Steps {
     }
 
     /// Hands out the next stores, at most `most`, all of one word, run or parity; or tells that the call is finished.
-    /// `image` is the zone's bytes with all stores made that were handed out before; `table` is an encoder's for the
-    /// zone's parity, or empty, which is slower.
+    /// `image` is the zone's bytes with all stores made that were handed out before: words and runs are the same
+    /// whatever it is, parity is of its header and data. `table` is an encoder's for the zone's parity, or empty, which
+    /// is slower.
     pub fn next(
         &mut self,
         table: &[u128],
@@ -665,12 +676,19 @@ impl Steps {
         ensures inside { IsInside self.old.zone.size out.new line.now payload.now }
         ensures some { self.old.made < total_of (flying self.old line.now payload.now)
             → 0 < handed_count out.new line.now payload.now }
-        ensures handed { (before : List ℕ) → StandsFor (flying self.old line.now payload.now) image.now before
+        ensures handed { (now before : List ℕ) → IsAlike (flying self.old line.now payload.now) image.now now
+            → StandsFor (flying self.old line.now payload.now) now before
             → handed out.new line.now payload.now ≡ take (handed_count out.new line.now payload.now)
             (drop self.old.made (call_stores self.old.zone (call_of self.old.kind line.now payload.now) before)) }
-        ensures stands { (before : List ℕ) → StandsFor (flying self.old line.now payload.now) image.now before
+        ensures stands { (now before : List ℕ) → IsAlike (flying self.old line.now payload.now) image.now now
+            → StandsFor (flying self.old line.now payload.now) now before
             → StandsFor (flying self.new line.now payload.now)
-            (after_stores image.now (handed out.new line.now payload.now)) before }
+            (after_stores now (handed out.new line.now payload.now)) before }
+        ensures apart { IsParity self.old.place.phase → (now : List ℕ)
+            → IsSameData self.old.zone (after_stores now (handed out.new line.now payload.now)) now }
+        ensures coming { stores_left (flying self.old line.now payload.now) image.now
+            ≡ handed out.new line.now payload.now ++ stores_left (flying self.new line.now payload.now)
+            (after_stores image.now (handed out.new line.now payload.now)) }
         ensures finished { (out.new.given ≡ Given.Nothing)
             ↔ (self.old.made ≡ total_of (flying self.old line.now payload.now)) }
     {

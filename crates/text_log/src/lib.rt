@@ -1,8 +1,9 @@
 //! Text logs, such as a serial capture or what `dmesg` printed: whether bytes are one, and the boots in it.
 #![tactic(auto)]
 
-ghost use Rattle.std.specs.Prelude.{◌≡◌, ◌≤◌, ◌+◌, ◌↔◌, ◌&&◌, nat_lt, length, drop, IfOk, IsTrue};
-ghost use Rattle.text_log_spec.specs.Boots.{IsTextLog, begins, is_booting_behind, line_at, boot, boots_of, Joined};
+ghost use Rattle.std.specs.Prelude.{◌≡◌, ◌≤◌, ◌+◌, ◌↔◌, ◌&&◌, not, nat_lt, length, drop, IfOk, IsTrue};
+ghost use Rattle.std.specs.List.{list_any};
+ghost use Rattle.text_log_spec.specs.Boots.{is_erased, IsTextLog, begins, is_booting_behind, line_at, boot, boots_of, Joined};
 ghost use Rattle.text_log_spec.specs.Words.{run};
 ghost use Rattle.text_log_spec.specs.declared.Class.TheVariants.{Line};
 
@@ -14,11 +15,18 @@ pub use text_log_spec::{Boot, Head};
 use words::{run, tail};
 pub use words::{head_of, said};
 
-/// Whether bytes are a text log: they are not empty, and none of them is 0.
+// Whether one of the bytes is not as in erased flash.
+fn has_written(bytes: &[u8]) -> bool
+    ensures { result ≡ list_any (λ b. not (is_erased b)) bytes.now }
+{
+    bytes.iter().any(|b| *b != 0xff)
+}
+
+/// Whether bytes are a text log: none of them is 0, and not all of them are 0xff, as in erased flash.
 pub fn is_text_log(bytes: &[u8]) -> bool
     ensures { IsTrue result ↔ IsTextLog bytes.now }
 {
-    !bytes.is_empty() && bytes.iter().all(|b| *b > 0)
+    has_written(bytes) && bytes.iter().all(|b| *b > 0)
 }
 
 fn begins(is_booting: bool, head: Option<Head>) -> bool

@@ -1,5 +1,7 @@
 -- Whether bytes are a text log, and the boots in it
-use Rattle.std.specs.Prelude.{◌≡◌, ℕ, zero, suc, ◌+◌, ◌<◌, Bool, true, false, not, nat_lt, if◌then◌else◌, List}
+use Rattle.std.specs.Prelude.{◌≡◌, ℕ, zero, suc, ◌+◌, ◌<◌, ◌==◌, Bool, true, false, not, nat_lt, if◌then◌else◌, List}
+use Rattle.std.specs.Prelude.{IsTrue}
+use Rattle.std.specs.List.{list_any}
 use Rattle.std.specs.Prelude.{[], ◌∷◌, length}
 use Rattle.std.specs.Prelude.{take, drop, slice_index, EachIndex, Option, Some, None}
 use Rattle.text_log_spec.specs.declared.Class.TheVariants.{Line}
@@ -8,9 +10,13 @@ use Rattle.text_log_spec.specs.declared.Head.TheVariants.{Booting, Version}
 use Rattle.text_log_spec.specs.declared.Boot.{Boot}
 use Rattle.text_log_spec.specs.Words.{run, head_of}
 
--- a text has a byte, and none of its bytes is 0
+-- a byte of erased flash
+abbrev pub is_erased : ℕ → Bool
+is_erased b = b == 255
+
+-- a text has a byte that is not erased, and none of its bytes is 0
 abbrev pub IsTextLog : List ℕ → Type 0
-IsTextLog bytes = (0 < length bytes) × EachIndex bytes (λ k. 0 < slice_index bytes k)
+IsTextLog bytes = IsTrue (list_any (λ b. not (is_erased b)) bytes) × EachIndex bytes (λ k. 0 < slice_index bytes k)
 
 -- a boot begins at each line `Booting Linux on physical CPU`, and at each `Linux version` that is not the first below
 -- such a line

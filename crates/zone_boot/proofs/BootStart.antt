@@ -1,8 +1,7 @@
 -- Where a boot begins
 use Rattle.std.proofs.Common.{◌≡◌, ℕ, ◌+◌, ◌-◌, ◌/◌, ◌≤◌, Bool, if◌then◌else◌, List, [], ◌++◌, length, drop, flat_map}
-use Rattle.std.proofs.Common.{slice_range, refl, sym, ap, ap₂, ◌∙◌, arith, w32, length-take, length-drop}
+use Rattle.std.proofs.Common.{slice_range, refl, sym, ap, ap₂, ◌∙◌, arith, length-take, length-drop}
 use Rattle.std.specs.List.{range_with_len}
-use Rattle.std.proofs.lemmas.Nat.{le_bytes_4}
 use Rattle.list_laws.proofs.Slices.{append-slice_range_thirds}
 use Rattle.zone_spec.specs.declared.Zone.{Zone}
 use Rattle.zone_spec.specs.declared.Words.{Words}
@@ -15,7 +14,7 @@ use Rattle.zone_spec.specs.Reading.{ZoneReading, zone_reading, state_of}
 use Rattle.zone_spec.specs.Stores.{Store, after_stores}
 use Rattle.zone_spec.specs.Stages.{Stage, stores_in_turn}
 use Rattle.zone_spec.specs.Calls.{erase_stages}
-use Rattle.zone_spec.specs.Boot.{part_fixes, boot_fixes, boot_erasure, boot_stores, blocks_read, keeps, keeps_in}
+use Rattle.zone_spec.specs.Boot.{part_fixes, boot_fixes, boot_erasure, boot_stores, blocks_read, keeps}
 use Rattle.zone_spec.specs.Boot.{signing}
 use Rattle.ring_laws.proofs.PartsLaw.{slice_range-bytes}
 use Rattle.ring_laws.proofs.BootLaw.{length-reading}
@@ -29,14 +28,8 @@ use Rattle.zone_spec.specs.WordBytes.{word_bytes}
 use Rattle.zone_spec.specs.declared.params.ByteOrder.{ByteOrder}
 use Rattle.word_laws.proofs.WordBytes.{word_bytes-word_of}
 
--- ---- the erasure, by the state
+-- ---- all stores, by the state
 module _ (z : Zone) (x : List ℕ) where
-  -- whether it is kept, by its state
-  pub keeps-in : (w : Words) (s t : State) → w ≡ words_read z x → s ≡ state_of z w → s ≡ t
-      → keeps_in z (zone_reading z x) t ≡ keeps z (zone_reading z x)
-  keeps-in w s t ew es et = ap (keeps_in z (zone_reading z x)) (sym et ∙ es ∙ ap (state_of z) ew ∙ sym (reading_state z x))
-
-  -- ---- all stores
   fixes-found : (s : State) (n : ℕ) → (zone_reading z x).state ≡ s
       → (s ≡ Found → n ≡ ((zone_reading z x).words.size + z.block - 1) / z.block) → ((s ≡ Found → ⊥) → n ≡ 0)
       → flat_map (λ k. part_fixes z x (Block k)) (range_with_len 0 n)

@@ -11,9 +11,9 @@ ghost use Rattle.std.proofs.Common.{w32};
 ghost use Rattle.rs_encode.specs.Lanes.{IsLent};
 ghost use Rattle.zone_spec.specs.Parts.{Header as HeaderPart, Block};
 ghost use Rattle.zone_spec.specs.PartReadings.{part_reading, words_read};
-ghost use Rattle.zone_boot.specs.Handed.{handed, handed_len};
+ghost use Rattle.zone_boot.specs.Handed.{handed, handed_len, IsPlain};
 
-use crate::deciding::{Erasure, block_count, erasure_of, keeps};
+use crate::deciding::{Erasure, block_count, erasure_of, keeps_in_place};
 use crate::handing::BootStore;
 use crate::summaries::state_of;
 use arrayvec::ArrayVec;
@@ -75,7 +75,12 @@ impl Boot {
         let header = read_header(table, image, zone, &mut fixes);
         let words = header.words;
         let state = state_of(zone, words);
-        Boot::of_reading(zone, words, state, keeps(table, image, zone, words, state))
+        Boot::of_reading(
+            zone,
+            words,
+            state,
+            keeps_in_place(table, image, zone, words, state),
+        )
     }
 
     /// A boot before its first store, of a zone whose header reads as these words.
@@ -158,7 +163,7 @@ impl Boot {
     }
 
     /// Hands out the next stores. `image` is the zone's bytes after all stores that were handed out before: the caller
-    /// makes those of `out` before it asks again.
+    /// makes those of `out` before it asks again. With any other bytes of this length too the boot comes to its end.
     pub fn next(&mut self, table: &[u128], image: &[u8], out: &mut BootStore)
         requires table { IsLent self.old.zone.parity table.now }
         requires valid { IsValidZone self.old.zone }
@@ -176,6 +181,11 @@ impl Boot {
             → self.old.made < length (boot_stores self.old.zone before) → 0 < length (handed out.new) }
         ensures finished { (before : List ℕ) → IsBooting self.old before image.now
             → (out.new.given ≡ Nothing) ↔ (self.old.made ≡ length (boot_stores self.old.zone before)) }
+        ensures left { left_of self.old image.now
+            ≡ handed out.new ++ left_of self.new (after_stores image.now (handed out.new)) }
+        ensures plain { IsPlain out.new }
+        ensures last { handed out.new ≡ [] → left_of self.old image.now ≡ [] }
+        ensures ends { handed out.new ≡ [] → self.new.phase ≡ Finished }
     {
         self.go_on(table, image, out);
     }
@@ -187,6 +197,7 @@ impl Boot {
         requires size { length image.now ≡ self.old.zone.size }
         ensures gives { Gives self.old image.now self.new out.new }
         ensures some { handed out.new ≡ [] → left_of self.old image.now ≡ [] }
+        ensures ends { handed out.new ≡ [] → self.new.phase ≡ Finished }
     {
         match self.phase {
             Phase::Header => self.correct_header(table, image, out),
@@ -262,6 +273,7 @@ impl Boot {
         requires phase { self.old.phase ≡ Header }
         ensures gives { Gives self.old image.now self.new out.new }
         ensures some { handed out.new ≡ [] → left_of self.old image.now ≡ [] }
+        ensures ends { handed out.new ≡ [] → self.new.phase ≡ Finished }
     {
         let mut fixes: ArrayVec<Fix, 63> = ArrayVec::new();
         let header = read_header(table, image, &self.zone, &mut fixes);
@@ -303,6 +315,7 @@ impl Boot {
         requires phase { self.old.phase ≡ Blocks }
         ensures gives { Gives self.old image.now self.new out.new }
         ensures some { handed out.new ≡ [] → left_of self.old image.now ≡ [] }
+        ensures ends { handed out.new ≡ [] → self.new.phase ≡ Finished }
     {
         while self.block < self.count {
             self.correct_block(table, image, out);
@@ -338,7 +351,7 @@ impl Boot {
         }
     }
 
-    /// Whether no store is left.
+    /// Whether the boot is at its end. A boot without stores comes there by its first answer, and not before.
     pub fn is_finished(&self) -> bool
         ensures { IsTrue result ↔ (self.now.phase ≡ Finished) }
     {

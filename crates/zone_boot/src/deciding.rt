@@ -1,13 +1,14 @@
 // What a boot reads of a zone before its first store.
 ghost use Rattle.std.specs.Prelude.{◌≡◌, ◌+◌, ◌-◌, ◌*◌, ◌/◌, ◌<◌, ◌++◌, [], if◌then◌else◌, ◌==◌, ◌||◌, ◌&&◌, not};
 ghost use Rattle.std.specs.Prelude.{length};
+ghost use Rattle.zone_spec.specs.declared.Kind.TheVariants.{Dump};
 ghost use Rattle.zone_spec.specs.declared.State.TheVariants.{Found};
 ghost use Rattle.zone_spec.specs.Zones.{IsValidZone};
 ghost use Rattle.zone_spec.specs.PartReadings.{words_read};
-ghost use Rattle.zone_spec.specs.Reading.{zone_reading, state_of as state_for};
+ghost use Rattle.zone_spec.specs.Reading.{ZoneReading, zone_reading, state_of as state_for};
 ghost use Rattle.zone_spec.specs.TimeLines.{has_line};
 ghost use Rattle.zone_spec.specs.Calls.{erase_stages};
-ghost use Rattle.zone_spec.specs.Boot.{is_kept, keeps as keeps_zone, signing};
+ghost use Rattle.zone_spec.specs.Boot.{keeps as keeps_zone, signing};
 ghost use Rattle.rs_encode.specs.Lanes.{IsLent};
 ghost use Rattle.zone_boot.specs.Left.{stages_of};
 
@@ -36,29 +37,36 @@ fn begins_with_line(table: &[u128], image: &[u8], zone: &Zone) -> bool
 }
 
 /// Whether a ring with these words can be appended to.
-fn is_open(words: Words, cap: u32) -> bool
+pub fn is_open(words: Words, cap: u32) -> bool
     ensures { result ≡ ((words.start == words.size || words.size == cap) && not (words.start == cap)) }
 {
     (words.start == words.size || words.size == cap) && words.start != cap
 }
 
-/// Whether a zone that was found is kept.
-fn is_found_kept(table: &[u128], image: &[u8], zone: &Zone, words: Words) -> bool
-    requires table { IsLent zone.now.parity table.now }
-    requires valid { IsValidZone zone.now }
-    requires size { length image.now ≡ zone.now.size }
-    requires words { words ≡ words_read zone.now image.now }
-    ensures { result ≡ is_kept zone.now (zone_reading zone.now image.now) zone.now.name.kind }
+/// Whether a boot leaves a zone with these words, which make this state, without erasing it (`fs/pstore/ram.c`). That
+/// an ftrace ring which cannot be appended to is erased is the project's own choice. `is_timed` counts only for a dump
+/// that was found: whether its log begins with a time line.
+pub fn keeps(zone: &Zone, words: Words, state: State, is_timed: bool) -> bool
+    ensures { (reading : ZoneReading) → reading.words ≡ words → reading.state ≡ state
+        → (zone.now.name.kind ≡ Dump → state ≡ Found → is_timed ≡ has_line reading.log)
+        → result ≡ keeps_zone zone.now reading }
 {
-    match zone.name.kind {
-        Kind::Dump => begins_with_line(table, image, zone),
-        Kind::Console | Kind::Pmsg => false,
-        Kind::Ftrace => is_open(words, zone.cap),
+    match (state, zone.name.kind) {
+        (State::Found, Kind::Dump) => is_timed,
+        (State::Found, Kind::Ftrace) => is_open(words, zone.cap),
+        (State::Empty, _) => true,
+        _ => false,
     }
 }
 
-/// Whether a boot leaves a zone with these words, which make this state, without erasing it.
-pub(crate) fn keeps(table: &[u128], image: &[u8], zone: &Zone, words: Words, state: State) -> bool
+/// As [`keeps`], of a zone in place. Only a dump that was found is asked for its time line.
+pub(crate) fn keeps_in_place(
+    table: &[u128],
+    image: &[u8],
+    zone: &Zone,
+    words: Words,
+    state: State,
+) -> bool
     requires table { IsLent zone.now.parity table.now }
     requires valid { IsValidZone zone.now }
     requires size { length image.now ≡ zone.now.size }
@@ -66,12 +74,11 @@ pub(crate) fn keeps(table: &[u128], image: &[u8], zone: &Zone, words: Words, sta
     requires state { state ≡ state_for zone.now words }
     ensures { result ≡ keeps_zone zone.now (zone_reading zone.now image.now) }
 {
-    match state {
-        State::Found => is_found_kept(table, image, zone, words),
-        State::Empty => true,
-        State::Invalid => false,
-        State::Unsigned => false,
-    }
+    let is_timed = match (state, zone.name.kind) {
+        (State::Found, Kind::Dump) => begins_with_line(table, image, zone),
+        _ => false,
+    };
+    keeps(zone, words, state, is_timed)
 }
 
 /// What a boot does after its corrections of a zone in this state.

@@ -25,12 +25,13 @@ pub struct Summary {
 
 /// Corrected bytes, and parts that could not be read.
 #[derive(Clone, Copy)]
-struct Counts {
-    corrected: u32,
-    bad: u32,
+pub struct Counts {
+    pub corrected: u32,
+    pub bad: u32,
 }
 
-fn counts_of(outcome: Decoded) -> Counts
+/// What a part with this outcome adds.
+pub fn counts_of(outcome: Decoded) -> Counts
     ensures corrected { (reading : PartReading) → CountsAre outcome reading → result.corrected ≡ reading.corrected }
     ensures bad { (reading : PartReading) → CountsAre outcome reading → result.bad ≡ reading.bad }
     ensures few { result.corrected < 256 }
@@ -53,7 +54,7 @@ fn counts_of(outcome: Decoded) -> Counts
 }
 
 /// The state that a header's words make.
-pub(crate) fn state_of(zone: &Zone, words: Words) -> State
+pub fn state_of(zone: &Zone, words: Words) -> State
     ensures { result ≡ state_for zone.now words }
 {
     if words.sig != zone.sig {

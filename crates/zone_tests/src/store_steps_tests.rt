@@ -484,6 +484,8 @@ fn numbers_that_are_no_steps_are_seen(rt: HostRuntime) {
         (Leg::Payload, 7, Phase::Size, 0, 0, 0, false),
         (Leg::Payload, 4018, Phase::Size, 0, 0, 0, false),
         (Leg::Line, 0, Phase::Size, 0, 0, 0, false),
+        (Leg::Payload, 0, Phase::ZeroStart, 0, 0, 5, false),
+        (Leg::Payload, 0, Phase::ZeroSize, 0, 0, 6, false),
     ];
     for (leg, start, phase, block, number, made, is_kept) in rows {
         let mut steps = begun;

@@ -6,4 +6,4 @@ use Rattle.command_examples.proofs.worked_layouts.Goals as goal
 
 pub returns : goal.returns
 unfolding computing_tool
-returns c = (refl, refl, refl)
+returns c = (refl, refl, refl, refl)

@@ -1,7 +1,7 @@
--- Eight worked trees: one node, the tree cut off or with a wrong token, and each rule of the
--- kernel for numbers and status. By `RowValues`.
+-- Ten worked trees: one node, the tree cut off or with a wrong token, and each rule of the kernel for numbers and
+-- status. By `RowValues`.
 use Rattle.dtb_laws.proofs.RowValues.{small_row, cut_row, token_row, first_cell_row, old_board_row, large_row}
-use Rattle.dtb_laws.proofs.RowValues.{short_row, status_row}
+use Rattle.dtb_laws.proofs.RowValues.{short_row, status_row, reserved_row, traced_row}
 use Rattle.dtb_laws.proofs.rows.Goals as goal
 
 pub returns-clause-small : goal.returns-clause-small
@@ -27,3 +27,9 @@ returns-clause-short c = short_row
 
 pub returns-clause-status : goal.returns-clause-status
 returns-clause-status c = status_row
+
+pub returns-clause-reserved : goal.returns-clause-reserved
+returns-clause-reserved c = reserved_row
+
+pub returns-clause-traced : goal.returns-clause-traced
+returns-clause-traced c = traced_row

@@ -1,6 +1,7 @@
 -- How storages are divided: the rows compute. By `Worked`.
 use Rattle.psz_examples.proofs.Worked.{dumps_alone, all_kinds, odd_place, rest_unused, no_room, no_dump_zone, uneven}
-use Rattle.psz_examples.proofs.Worked.{more_than_cpus, left_over, most}
+use Rattle.psz_examples.proofs.Worked.{more_than_cpus, left_over, most, total_small, no_size, total_uneven}
+use Rattle.psz_examples.proofs.Worked.{ftrace_small, headers_alone}
 use Rattle.psz_examples.proofs.layouts.Goals as goal
 
 pub returns-clause-dumps_alone : goal.returns-clause-dumps_alone
@@ -32,3 +33,18 @@ returns-clause-left_over c = left_over
 
 pub returns-clause-most : goal.returns-clause-most
 returns-clause-most c = most
+
+pub returns-clause-total_small : goal.returns-clause-total_small
+returns-clause-total_small c = total_small
+
+pub returns-clause-no_size : goal.returns-clause-no_size
+returns-clause-no_size c = no_size
+
+pub returns-clause-total_uneven : goal.returns-clause-total_uneven
+returns-clause-total_uneven c = total_uneven
+
+pub returns-clause-ftrace_small : goal.returns-clause-ftrace_small
+returns-clause-ftrace_small c = ftrace_small
+
+pub returns-clause-headers_alone : goal.returns-clause-headers_alone
+returns-clause-headers_alone c = headers_alone

@@ -1,7 +1,7 @@
 -- What bytes and parameters show: the rows compute. By `Marked`.
 use Rattle.psz_examples.proofs.Marked.{marks, too_long, just_fits, step, all_shown, one_dump, one_small, one_long}
 use Rattle.psz_examples.proofs.Marked.{first_missing, no_dump, wide_machine, x86_machine, no_machine, kib, five_kib}
-use Rattle.psz_examples.proofs.Marked.{ten_kib, odd_kib, no_kib}
+use Rattle.psz_examples.proofs.Marked.{ten_kib, odd_kib, no_kib, rest_before, odd_dump}
 use Rattle.psz_examples.proofs.Marked.{big_marks, little_order, big_order, first_order, other_no_mark, mixed_magic, no_mark}
 use Rattle.psz_examples.proofs.marks.Goals as goal
 
@@ -79,3 +79,9 @@ returns-clause-mixed_magic c = mixed_magic
 
 pub returns-clause-no_mark : goal.returns-clause-no_mark
 returns-clause-no_mark c = no_mark
+
+pub returns-clause-rest_before : goal.returns-clause-rest_before
+returns-clause-rest_before c = rest_before
+
+pub returns-clause-odd_dump : goal.returns-clause-odd_dump
+returns-clause-odd_dump c = odd_dump

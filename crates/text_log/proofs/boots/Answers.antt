@@ -1,7 +1,7 @@
 -- A line by which a boot begins ends the one before it, any other belongs to it; the last boot ends with the text. For
 -- `boots`.
 use Rattle.std.proofs.Common.{◌≡◌, ◌+◌, ◌++◌, ◌∷◌, [], length, sym, ap, subst, ◌∙◌, arith}
-use Rattle.text_log_spec.specs.Boots.{boot, begins, Joined}
+use Rattle.text_log_spec.specs.Boots.{begins, Joined}
 use Rattle.text_log_spec.specs.Words.{head_of}
 use Rattle.text_log.proofs.Firsts.{cut_found, on_found, last_here, none_here, from_start, joined_more, joined_none}
 use Rattle.text_log.proofs.Firsts.{later}

@@ -1,11 +1,13 @@
--- The sweep settles each layout of the family with as few faults, other than the best. It gives up only where it may.
--- For `find_rival`.
-use Rattle.std.proofs.Common.{◌∙◌, ◌<◌, ◌≤◌, ◌+◌, ◌^◌, ap, arith}
+-- The sweep settles each layout of the family with as few faults, other than the best. One with more that it kept goes.
+-- It gives up only where it may. For `find_rival`.
+use Rattle.std.proofs.Common.{◌≡◌, ◌∙◌, ◌<◌, ◌≤◌, ◌+◌, ◌^◌, false, Option, Some, IfSome, sym, subst, ap, arith}
 use Rattle.layout_spec.specs.declared.Tally.{Tally}
 use Rattle.layout_spec.specs.Laid.{zones_of}
 use Rattle.layout_spec.specs.Marks.{marks}
-use Rattle.layout_spec.specs.Order.{faults}
-use Rattle.layout_search.proofs.SearchAnswers.{few_faults, gives_up, tally_faults}
+use Rattle.layout_spec.specs.Order.{faults, key}
+use Rattle.layout_search.specs.Tried.{IsSound, is_ahead}
+use Rattle.layout_search.specs.declared.progress.Best.{Best}
+use Rattle.layout_search.proofs.SearchAnswers.{few_faults, few_first, few_left, few_sound, gives_up, tally_faults}
 use Rattle.layout_search.proofs.searching.find_rival.Goals as goal
 
 pub sweep-requires-clause-aim : goal.sweep-requires-clause-aim
@@ -20,9 +22,26 @@ sweep-requires-clause-aim c =
       limit = omega (arith, most, ap (λ (t : Tally). t.faults) c.requires.sound.tally_is, tally_faults image b.candidate);
     }
 
+pub returns-clause-sound : goal.returns-clause-sound
+returns-clause-sound c =
+    let besides = Some c.args.best.now.candidate in
+    subst (IsSound c.args.known.now c.args.image.now besides) (sym c.with_few-state.ensures)
+    (few_sound c.args.known.now c.args.image.now besides c.args.best.now.tally.faults c.sweep.new.state.best
+    c.in_ok-sweep.ensures.sound)
+
+pub returns-clause-few : goal.returns-clause-few
+returns-clause-few c =
+    let most = c.args.best.now.tally.faults in
+    subst (λ (o : Option Best). IfSome o (λ (b : Best). b.tally.faults ≤ most)) (sym c.with_few-state.ensures)
+    (few_left most c.sweep.new.state.best)
+
 pub returns-clause-settled : goal.returns-clause-settled
 returns-clause-settled c = λ work d family differs few.
-    (c.in_ok-sweep.ensures.settled work d).settled family few (λ e. differs cc)
+    let image = c.args.image.now in
+    subst (λ (o : Option Best). is_ahead (key image d) o ≡ false) (sym c.with_few-state.ensures)
+    (few_first c.args.known.now image (Some c.args.best.now.candidate) d c.args.best.now.tally.faults
+    c.sweep.new.state.best c.in_ok-sweep.ensures.sound few
+    ((c.in_ok-sweep.ensures.settled work d).settled family few (λ e. differs cc)))
 
 pub returns-clause-given_up : goal.returns-clause-given_up
 returns-clause-given_up c = λ ended. gives_up c.args.known.now c.args.image.now c.args.best.now

@@ -43,7 +43,7 @@ returns-then-others-gt0 c =
       limit = state.limit;
       reached = state.reached;
     })) (sym c.candidate_of-rival.ensures)
-    (wholly known image best others.best true state kept first c.in_ok-others.ensures.sound
+    (wholly known image best others.best true state kept first c.in_ok-others.ensures.sound c.in_ok-others.ensures.few
     (λ e. c.in_ok-others.ensures.settled left) (λ e. absurd (true≢false e)) (λ is. refl)))
 
 pub returns : goal.returns
@@ -69,6 +69,7 @@ returns c =
       reached = state.reached;
     })) (sym c.candidate_of-rival.ensures)
     (wholly known image best others.best (not other) state kept first c.in_ok-others.ensures.sound
+    c.in_ok-others.ensures.few
     (λ e d family differs few. absurd (c.in_ok-other-2.ensures.only (of_not other e) d family differs))
     (λ e. c.in_ok-others.ensures.given_up ended)
     (not_only other (IsOnly known image best.candidate) c.in_ok-other-2.ensures.other)))

@@ -1,10 +1,10 @@
 -- The stores are those of the boot, and the numbers are those of the boot behind them
-use Rattle.std.proofs.Common.{◌≡◌, ℕ, ◌+◌, ◌<◌, ◌≤◌, List, [], length, sym, ap, ◌∙◌, subst, take, drop, arith}
-use Rattle.zone_spec.specs.Stores.{after_stores}
+use Rattle.std.proofs.Common.{◌≡◌, ℕ, ◌+◌, ◌<◌, ◌≤◌, List, [], ◌++◌, length, sym, ap, ◌∙◌, subst, take, drop, arith}
+use Rattle.zone_spec.specs.Stores.{Store, after_stores}
 use Rattle.zone_spec.specs.Boot.{boot_stores}
 use Rattle.zone_boot.specs.declared.boots.Boot.{Boot}
 use Rattle.zone_boot.specs.Handed.{handed_len}
-use Rattle.zone_boot.specs.Booting.{IsKept, IsBooting}
+use Rattle.zone_boot.specs.Booting.{left_of, IsKept, IsBooting}
 use Rattle.oopsbox_c.specs.Places.{IsPlace}
 use Rattle.oopsbox_c.specs.Boots.{boot_in, boot_stores_in}
 use Rattle.oopsbox_c.proofs.boots.boot_on.Goals as goal
@@ -36,7 +36,7 @@ returns c =
         ap length g,
       );
       what = c.set_boot.ensures.what;
-      inside = c.set_boot.ensures.inside c.args.boot.now.zone.size [] []
+      inside = c.set_boot.ensures.inside c.args.boot.now.zone.size [] [] c.next.ensures.plain
           (subst (λ (x : Boot). c.next.new.out.place + handed_len c.next.new.out ≤ x.zone.size) e
           c.next.ensures.inside);
       handed = λ before stands.
@@ -58,4 +58,17 @@ returns c =
             (subst (λ (x : Boot). x.made ≡ length (boot_stores x.zone before)) (sym e) w)),
       );
       flag = c.set_boot.ensures.flag;
+      left = ap (λ (x : Boot). left_of x image) (sym e) ∙ c.next.ensures.left
+          ∙ ap (λ (ss : List Store). ss ++ left_of c.next.new.self (after_stores image ss)) (sym g)
+          ∙ ap (λ (x : Boot). boot_stores_in c.set_boot.new.self
+          ++ left_of x (after_stores image (boot_stores_in c.set_boot.new.self))) (sym of.boot);
+      last = (
+        λ w. g ∙ c.next.ensures.plain.0 (c.set_boot.ensures.last.0 w),
+        λ w. c.set_boot.ensures.last.1 (c.next.ensures.plain.1 (sym g ∙ w)),
+      );
+      none = c.set_boot.ensures.none;
+      none_left = λ w. ap (λ (x : Boot). left_of x image) (sym e)
+          ∙ c.next.ensures.last (c.next.ensures.plain.0 (c.set_boot.ensures.last.0 w));
+      ends = λ w. ap (λ (x : Boot). x.phase) of.boot
+          ∙ c.next.ensures.ends (c.next.ensures.plain.0 (c.set_boot.ensures.last.0 w));
     }

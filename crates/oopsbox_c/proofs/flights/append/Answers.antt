@@ -1,7 +1,8 @@
 -- The first stores are those of the flight that was begun. For `append`.
-use Rattle.std.proofs.Common.{sym, subst}
+use Rattle.std.proofs.Common.{sym, ap, ◌∙◌, subst}
 use Rattle.oopsbox_c.specs.Flights.{AppendEnds}
 use Rattle.oopsbox_c.specs.declared.ends.End.{End}
+use Rattle.oopsbox_c.specs.declared.places.ZonePlace.{ZonePlace}
 use Rattle.oopsbox_c.proofs.flights.append.Goals as goal
 
 pub returns-in-Done : goal.returns-in-Done
@@ -11,5 +12,7 @@ returns-in-Done c =
     (record {
       begun = c.begin-end.new.flight;
       is_begun = c.in-Done.ensures;
-      is_next = c.first_stores.ensures;
+      is_next = c.first_stores.ensures.next;
+      whole = λ parity. c.first_stores.ensures.whole c.in-Done.ensures.kind_is
+          (ap (λ (p : ZonePlace). p.parity) c.in-Done.ensures.zone ∙ parity) c.in-Done.ensures.made;
     })

@@ -1,16 +1,18 @@
 -- Parities and then words and runs, from no stores on
-use Rattle.std.proofs.Common.{◌≡◌, ℕ, ◌<◌, List, sym, ap, ◌∙◌, subst, inl, inr, arith}
+use Rattle.std.proofs.Common.{◌≡◌, ℕ, ◌<◌, List, refl, sym, ap, ◌∙◌, subst, inl, inr, arith}
+use Rattle.zone_spec.specs.Stores.{Store as DefinedStore}
 use Rattle.store_steps.specs.declared.steps.Steps.{Steps}
 use Rattle.store_steps.specs.declared.place.Phase.TheVariants.{Finished}
 use Rattle.store_steps.specs.Flying.{flying}
-use Rattle.store_steps.specs.Machine.{IsKept, IsParity}
+use Rattle.store_steps.specs.Machine.{IsKept, IsParity, IsAlike, stores_left}
 use Rattle.store_steps.specs.Counts.{total_of}
 use Rattle.store_steps.proofs.FlightSteps.{ends}
 use Rattle.oopsbox_c.specs.Gathered.{IsGathered}
+use Rattle.oopsbox_c.specs.Stores.{stores_in}
 use Rattle.oopsbox_c.specs.Flights.{steps_of}
 use Rattle.oopsbox_c.specs.declared.stores.Stores.{Stores}
-use Rattle.oopsbox_c.proofs.NextStores.{nothing_yet}
-use Rattle.oopsbox_c.proofs.FlightAnswer.{answered, no_less, none_taken, parity_or_not}
+use Rattle.oopsbox_c.proofs.FlightAnswer.{gathered, answered, no_less, none_taken, parity_or_not}
+use Rattle.oopsbox_c.proofs.LeftStores.{coming_yet, same_steps}
 use Rattle.oopsbox_c.proofs.flights.go_on.Goals as goal
 
 pub take_parities-requires-clause-kept : goal.take_parities-requires-clause-kept
@@ -26,14 +28,15 @@ flight_of-requires c =
     let e : s ≡ steps_of c.args.flight.now = c.steps_of-steps.ensures in
     let kept : IsKept (flying s line payload) = subst (λ x. IsKept (flying x line payload)) (sym e)
     c.requires.flight.kept in
-    let begun = nothing_yet image line payload s c.clear.new.self kept (c.clear.ensures.stores line payload)
-    (c.clear.ensures.inside s.zone.size line payload) (λ i. omega (arith, c.type_inv.image i)) in
-    let got = c.take_data.ensures.gathered (flying s line payload) image
-    (c.take_parities.ensures.gathered (flying s line payload) begun) in
+    let got = gathered s c.take_parities.new.steps c.take_data.new.steps c.clear.new.self c.take_parities.new.stores
+    c.take_data.new.stores image line payload kept (c.clear.ensures.stores line payload)
+    (c.clear.ensures.inside s.zone.size line payload) (λ i. omega (arith, c.type_inv.image i))
+    c.take_parities.ensures.gathered c.take_parities.ensures.idle c.take_data.ensures.gathered image
+    (record { bytes = λ h. h; parity = λ _. refl }) in
     got.same.zone ∙ ap (λ (x : Steps). x.zone) e
 
-pub returns : goal.returns
-returns c =
+pub returns-clause-next : goal.returns-clause-next
+returns-clause-next c =
     let image : List ℕ = c.args.image.now in
     let line : List ℕ = c.args.line.now in
     let payload : List ℕ = c.args.payload.now in
@@ -43,10 +46,10 @@ returns c =
     let e : s ≡ steps_of c.args.flight.now = c.steps_of-steps.ensures in
     let kept : IsKept (flying s line payload) = subst (λ x. IsKept (flying x line payload)) (sym e)
     c.requires.flight.kept in
-    let begun = nothing_yet image line payload s c.clear.new.self kept (c.clear.ensures.stores line payload)
-    (c.clear.ensures.inside s.zone.size line payload) (λ i. omega (arith, c.type_inv.image i)) in
-    let got = c.take_data.ensures.gathered (flying s line payload) image
-    (c.take_parities.ensures.gathered (flying s line payload) begun) in
+    let got = gathered s p t c.clear.new.self c.take_parities.new.stores c.take_data.new.stores image line payload kept
+    (c.clear.ensures.stores line payload) (c.clear.ensures.inside s.zone.size line payload)
+    (λ i. omega (arith, c.type_inv.image i)) c.take_parities.ensures.gathered c.take_parities.ensures.idle
+    c.take_data.ensures.gathered in
     let first = c.take_parities.ensures.later in
     let second = c.take_data.ensures.later in
     let made : s.made ≡ c.args.flight.now.made = ap (λ (x : Steps). x.made) e in
@@ -81,7 +84,8 @@ returns c =
     let of = c.flight_of.ensures in
     answered c.args.flight.now c.flight_of.result image line payload c.args.most c.flag-stores.result t
     c.take_data.new.stores c.requires.flight
-    (subst (λ x. IsGathered (flying x line payload) image line payload t c.take_data.new.stores) e got)
+    (subst (λ (x : Steps). (now : List ℕ) → IsAlike (flying x line payload) image now
+    → IsGathered (flying x line payload) now line payload t c.take_data.new.stores) e got)
     (record {
       steps = of.steps;
       zone = of.zone;
@@ -99,3 +103,17 @@ returns c =
     (λ h. let l = some (omega (arith, h, made, all)) in omega (arith, l, made))
     (λ h. none (omega (arith, h, made)))
     (elim c.take_data.ensures.stops [ inl m ↦ inl (omega (arith, m, made)) | inr r ↦ inr r ])
+
+pub returns-clause-coming : goal.returns-clause-coming
+returns-clause-coming c =
+    let image : List ℕ = c.args.image.now in
+    let line : List ℕ = c.args.line.now in
+    let payload : List ℕ = c.args.payload.now in
+    let s : Steps = c.steps_of-steps.result in
+    let all : List DefinedStore = stores_left (flying s line payload) image in
+    let out : List DefinedStore = stores_in c.take_data.new.stores line payload in
+    let got = c.take_data.ensures.coming all image (c.take_parities.ensures.coming all
+    (coming_yet image line payload s c.clear.new.self (c.clear.ensures.stores line payload)
+    (λ i. omega (arith, c.type_inv.image i)))) in
+    same_steps (steps_of c.args.flight.now) s c.take_data.new.steps (steps_of c.flight_of.result) image line payload out
+    c.steps_of-steps.ensures c.flight_of.ensures.steps got.whole

@@ -10,7 +10,8 @@ returns-then-is_parity c = (
     lendable = c.is_lendable.ensures.0 c.if-not-is_lendable.false;
     some = let some = c.if-most-eq0.false in omega (arith, some);
   },
-  c.go_on_by.ensures,
+  c.go_on_by.ensures.next,
+  c.go_on_by.ensures.coming,
 )
 
 pub returns-else-is_parity : goal.returns-else-is_parity
@@ -21,5 +22,6 @@ returns-else-is_parity c = (
     lendable = c.is_lendable.ensures.0 c.if-not-is_lendable.false;
     some = let some = c.if-most-eq0.false in omega (arith, some);
   },
-  c.go_on.ensures,
+  c.go_on.ensures.next,
+  c.go_on.ensures.coming,
 )

@@ -1,10 +1,11 @@
--- A zone with its reading and its parts at one place has the value of all three. For `put_at`.
-use Rattle.std.proofs.Common.{◌≡◌, ◌∙◌, ℕ, length, get_or, Option, Some, None, refl, sym, ap, arith}
+-- A zone with its reading and its parts at one place has the value of all three, and null without a reading. For
+-- `put_at`.
+use Rattle.std.proofs.Common.{◌≡◌, ◌∙◌, length, get_or, Option, Some, None, refl, sym, ap}
 use Rattle.std.proofs.lemmas.Option.{slice_get-get_or, slice_get_read}
 use Rattle.prz_region.proofs.CutLoop.{no_zone}
 use Rattle.serde_json.specs.Data.{null}
 use Rattle.zone_spec.specs.Reading.{ZoneReading}
-use Rattle.report_json.specs.Schema.{zone_data}
+use Rattle.report_json.specs.Schema.{zone_data, saved_data}
 use Rattle.report_json.proofs.Places.{beside, on_ok}
 use Rattle.report_json.proofs.zones.put_at.Goals as goal
 
@@ -16,15 +17,14 @@ returns-in-Some c =
           let zone : Some (get_or c.args.zones.now c.args.i no_zone) ≡ Some z =
           sym (slice_get-get_or c.args.zones.now c.args.i no_zone c.requires.zones) ∙ ez in
           let same_zone : get_or c.args.zones.now c.args.i no_zone ≡ z = cc in
-          let reading : Some c.in-Some.reading.now ≡ Some r = beside c.args.logs.now.zones c.args.logs.now.readings
-          c.args.i (Some c.in-Some.reading.now) (Some r) c.in-Some.ensures er in
-          let same_reading : c.in-Some.reading.now ≡ r = cc in
+          let reading : Some c.in-Some.reading.now ≡ r = beside c.args.logs.now.zones c.args.logs.now.readings
+          c.args.i (Some c.in-Some.reading.now) r c.in-Some.ensures er in
           let part : Some c.index-parts-place.result ≡ Some p = sym (slice_get_read c.args.parts.now
           (length c.args.parts.now) c.args.i c.index-parts-place.result refl c.requires.parts c.index-parts-place.is)
           ∙ ep in
           let same_part : c.index-parts-place.result ≡ p = cc in
           ap (λ y. zone_data y c.in-Some.reading.now c.index-parts-place.result) same_zone
-          ∙ ap (λ y. zone_data z y c.index-parts-place.result) same_reading ∙ ap (zone_data z r) same_part;
+          ∙ ap (zone_data z c.in-Some.reading.now) same_part ∙ ap (saved_data z p) reading;
       put = e;
     }) c.put_zone.ensures
 
@@ -33,8 +33,7 @@ returns-in-None c =
     on_ok c.null.result _ _ (λ e. record {
       value = null;
       is = λ z r p ez er ep.
-          let no_reading : ◌≡◌ {A = Option ZoneReading} None (Some r) = beside c.args.logs.now.zones
-          c.args.logs.now.readings c.args.i None (Some r) c.in-None.ensures er in
-          let n : ◌≡◌ {A = ℕ} 0 1 = cc in absurd (omega (arith, n));
+          let no_reading : ◌≡◌ {A = Option ZoneReading} None r = beside c.args.logs.now.zones
+          c.args.logs.now.readings c.args.i None r c.in-None.ensures er in ap (saved_data z p) no_reading;
       put = e;
     }) c.null.ensures

@@ -45,7 +45,7 @@ returns-in_err-tell_layout-clause-reported g c =
     (g.O.Sink.faults c.report_by.new.out) (g.O.Sink.faults c.tell_layout.new.out) c.in_ok-report.ensures.faultless
     (seen (g.E.Sink.given c.tell_layout.new.messages.errors) (g.E.Sink.faults c.tell_layout.new.messages.errors)
     c.tell_layout.new.messages.is_lost)
-    _ _ c.in_err-tell_layout.field-0.0 c.in_err-tell_layout.ensures in
+    _ _ c.in_err-tell_layout.field-0.0 c.in_err-tell_layout.ensures.told in
     let p = err_from_is_err_and c.from_residual-in_err-tell_layout.result
     c.from_residual-in_err-tell_layout.ensures.1 in
     rw (p.1, p.2) h
@@ -63,4 +63,4 @@ returns-clause-reported g c =
     (g.O.Sink.faults c.report_by.new.out) (g.O.Sink.faults c.tell_layout.new.out) c.in_ok-report.ensures.faultless
     (seen (g.E.Sink.given c.tell_layout.new.messages.errors) (g.E.Sink.faults c.tell_layout.new.messages.errors)
     c.tell_layout.new.messages.is_lost)
-    c.in_ok-tell_layout.ensures
+    c.in_ok-tell_layout.ensures.told

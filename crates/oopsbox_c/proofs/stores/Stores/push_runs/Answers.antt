@@ -7,8 +7,8 @@ use Rattle.oopsbox_c.proofs.stores.Stores.push_runs.Goals as goal
 pub returns-then-whole-gt0-clause-inside : goal.returns-then-whole-gt0-clause-inside
 returns-then-whole-gt0-clause-inside c = λ size line payload are within.
     c.push_payload-then-whole-gt0.ensures.inside size line payload
-    (c.push_payload.ensures.inside size line payload are within.first (omega (arith, within.bytes)))
-    within.second (omega (arith, within.bytes, c.from.ensures))
+    (c.push_payload.ensures.inside size line payload are within.some within.first (omega (arith, within.bytes)))
+    (omega (arith, c.if-whole-gt0.true)) within.second (omega (arith, within.bytes, c.from.ensures))
 
 pub returns-else-whole-gt0-clause-stores : goal.returns-else-whole-gt0-clause-stores
 unfolding byte_stores
@@ -23,4 +23,4 @@ returns-else-whole-gt0-clause-stores c = λ line payload.
 
 pub returns-else-whole-gt0-clause-inside : goal.returns-else-whole-gt0-clause-inside
 returns-else-whole-gt0-clause-inside c = λ size line payload are within.
-    c.push_payload.ensures.inside size line payload are within.first (omega (arith, within.bytes))
+    c.push_payload.ensures.inside size line payload are within.some within.first (omega (arith, within.bytes))

@@ -3,7 +3,7 @@
 use Rattle.std.proofs.Common.{◌≡◌, ℕ, List, ◌++◌, length, take, refl, sym, ap, ap₂, ◌∙◌, arith, length-take-le}
 use Rattle.zone_spec.specs.Parts.{Block}
 use Rattle.zone_spec.specs.PartReadings.{part_reading}
-use Rattle.prz_read.proofs.Fronts.{bytes_read-next, counted-corrected, counted-bad}
+use Rattle.prz_read.proofs.Fronts.{bytes_read-next}
 use Rattle.prz_read.proofs.BlockList.{pushed}
 use Rattle.prz_read.proofs.reading.Front.push_decoded.Goals as goal
 
@@ -26,8 +26,8 @@ returns-clause-reads c =
     (c.in_ok-extend_from_slice.ensures.items ∙ ap (λ (l : List ℕ). c.args.self.now.bytes.items ++ l)
     (ap₂ (λ (n : ℕ) (ys : List ℕ). take n ys) c.min-len.ensures
     c.requires.data))
-    refl (c.counts_of-more.ensures.corrected ∙ counted-corrected _ _ c.requires.counts)
+    refl (c.counts_of-more.ensures.corrected _ c.requires.counts)
     c.counts_of-more.ensures.few
-    refl (c.counts_of-more.ensures.bad ∙ counted-bad _ _ c.requires.counts)
+    refl (c.counts_of-more.ensures.bad _ c.requires.counts)
     c.counts_of-more.ensures.one (c.part_state.ensures _ c.requires.counts)
     c.in_ok-push.ensures.wanted c.in_ok-push.ensures.kept

@@ -1,8 +1,9 @@
 -- A whole append is all its stores, and any other call is made one after another. For `Progress::advance`.
-use Rattle.std.proofs.Common.{◌≡◌, ◌+◌, min, take, drop, sym, subst}
+use Rattle.std.proofs.Common.{◌≡◌, ◌+◌, min, take, drop, sym, ap, subst, arith}
 use Rattle.zone_spec.specs.Calls.{call_stores}
 use Rattle.prz_region.specs.CutRegion.{span, stored}
 use Rattle.store_steps.specs.Counts.{total_of}
+use Rattle.store_steps.specs.Flying.{Flying}
 use Rattle.store_steps.specs.Machine.{IsKept, StandsFor}
 use Rattle.prz_write.specs.declared.progress.Progress.{Progress}
 use Rattle.prz_write.specs.Calls.{call_seen}
@@ -57,3 +58,10 @@ returns-in-None-clause-stores c = λ before stands.
     (drop p.steps.made (call_stores p.steps.zone (call_seen p.call) before)))) e
     (c.make_stores.ensures.stores before (subst (λ (p : Progress). StandsFor (seen p) (span c.args.spans.now c.args.i)
     before) (sym e) stands))
+
+pub returns-in-Some-clause-made : goal.returns-in-Some-clause-made
+returns-in-Some-clause-made c =
+    let took = c.in-Some.ensures.taken in
+    let total = ap (λ (f : Flying). total_of f) (seen_by c.args.self.now c.line-line.result.now
+    c.payload-payload.result.now c.requires.held.kind c.line-line.ensures.value c.payload-payload.ensures) in
+    omega (arith, took.made, took.fresh, took.few, total)

@@ -1,6 +1,6 @@
 -- What is handed out and made takes the flight on: it stands for the span's new bytes, and
 -- they are the call's next. For `make_next`.
-use Rattle.std.proofs.Common.{◌≡◌, List, ℕ, ◌-◌, take, drop, sym, ap, ap₂, ◌∙◌, subst, arith}
+use Rattle.std.proofs.Common.{◌≡◌, List, ℕ, ◌-◌, take, drop, refl, sym, ap, ap₂, ◌∙◌, subst, arith}
 use Rattle.std.proofs.lemmas.Grind.{common_steps}
 use Rattle.zone_spec.specs.Stores.{Store, after_stores}
 use Rattle.zone_spec.specs.Calls.{call_stores}
@@ -9,7 +9,7 @@ use Rattle.prz_region.proofs.Cuts.{span-stored}
 use Rattle.prz_write.specs.declared.progress.Progress.{Progress}
 use Rattle.store_steps.specs.Flying.{Flying, flying}
 use Rattle.store_steps.specs.Handed.{handed, handed_count}
-use Rattle.store_steps.specs.Machine.{IsKept, StandsFor}
+use Rattle.store_steps.specs.Machine.{IsKept, StandsFor, IsAlike}
 use Rattle.prz_write.specs.Seen.{seen}
 use Rattle.prz_write.proofs.CallSteps.{seen_by}
 use Rattle.prz_write.proofs.progress.Progress.make_next.Goals as goal
@@ -46,6 +46,11 @@ begun_on c before stands =
     before) (sym (image_is c))
     (subst (λ (f : Flying). StandsFor f (span c.args.spans.now c.args.i) before) (sym (was_seen c)) stands)
 
+itself : (c : goal.After-make) → IsAlike
+    (flying c.args.self.now.steps c.line-line.result.now c.payload-payload.result.now) c.bytes-image.result.now
+    c.bytes-image.result.now
+itself c = record { bytes = λ h. h; parity = λ _. refl }
+
 pub next-requires-clause-kept : goal.next-requires-clause-kept
 next-requires-clause-kept c =
     subst IsKept (sym (seen_by c.args.self.now c.line-line.result.now c.payload-payload.result.now
@@ -67,7 +72,7 @@ returns-clause-stands c = λ before stands.
     subst (λ (x : List ℕ). StandsFor (seen (later c)) x before)
     (ap (λ (x : List ℕ). after_stores x (handed c.next.new.out line payload)) image ∙ sym (span_is c))
     (subst (λ (f : Flying). StandsFor f (after_stores c.bytes-image.result.now (handed c.next.new.out line payload)) before)
-    (is_seen c) (c.next.ensures.stands before begun))
+    (is_seen c) (c.next.ensures.stands c.bytes-image.result.now before (itself c) begun))
 
 pub returns-clause-stores : goal.returns-clause-stores
 returns-clause-stores c = λ before stands.
@@ -76,7 +81,7 @@ returns-clause-stores c = λ before stands.
     let n : c.next.new.self.made - c.args.self.now.steps.made ≡ handed_count c.next.new.out line payload =
     omega (arith, c.next.ensures.made) in
     c.make.ensures ∙ ap (λ (ss : List Store). stored c.args.spans.now c.args.i ss)
-    (c.next.ensures.handed before (begun_on c before stands)
+    (c.next.ensures.handed c.bytes-image.result.now before (itself c) (begun_on c before stands)
     ∙ ap₂ (λ (k : ℕ) (f : Flying). take k (drop c.args.self.now.steps.made
     (call_stores c.args.self.now.steps.zone f.call before))) (sym n) (was_seen c))
 

@@ -4,7 +4,7 @@ use Rattle.shared_spec.specs.Machine.{refusal}
 use Rattle.shared_spec.specs.Runs.{Reserve}
 use Rattle.shared_spec.specs.Histories.{shared_zone, and_then}
 use Rattle.shared_ring.specs.Seen.{SharedSeen, IsLeftBy, stores}
-use Rattle.shared_ring.proofs.RingSteps.{left_reserved, left_refused}
+use Rattle.shared_ring.proofs.RingSteps.{left_reserved, left_refused, reserved_in}
 use Rattle.shared_ring.proofs.shared.Shared.reserve.Goals as goal
 
 pub returns-in-Some-clause-left : goal.returns-in-Some-clause-left
@@ -23,3 +23,7 @@ returns-in-None-clause-left c = λ h l.
 pub returns-in-None-clause-stores : goal.returns-in-None-clause-stores
 returns-in-None-clause-stores c =
     ap (λ (x : SharedSeen). stores x) c.seat.ensures.seated ∙ length-append c.args.self.now.region.made _
+
+pub returns-in-None-clause-stored : goal.returns-in-None-clause-stored
+returns-in-None-clause-stored c = λ h l.
+    ap (λ (x : SharedSeen). x.region) c.seat.ensures.seated ∙ reserved_in h c.args.self.now c.args.payload l

@@ -7,7 +7,7 @@ use Rattle.shared_spec.specs.Histories.{and_then}
 use Rattle.shared_ring.specs.Seats.{is_of}
 use Rattle.shared_ring.specs.Seen.{SharedSeen, IsLeftBy, stores}
 use Rattle.shared_ring.proofs.RingView.{the_seat}
-use Rattle.shared_ring.proofs.RingSteps.{left_stepped, left_idle, step_answers, idle_answers}
+use Rattle.shared_ring.proofs.RingSteps.{left_stepped, left_idle, step_answers, idle_answers, stepped_in, none_open}
 use Rattle.shared_ring.proofs.shared.Shared.step.Goals as goal
 
 pub returns-in-Some-clause-left : goal.returns-in-Some-clause-left
@@ -51,3 +51,19 @@ returns-in-Some-clause-stores c =
     let s = the_seat c.args.ticket c.args.self.now.seats c.in-Some.i e in
     ap (λ (x : SharedSeen). stores x) (c.store_next.ensures.stepped s.0 s.1)
     ∙ length-append c.args.self.now.region.made _
+
+pub returns-in-Some-clause-stored : goal.returns-in-Some-clause-stored
+returns-in-Some-clause-stored c = λ h call l is.
+    let e : position (is_of c.args.ticket) c.args.self.now.seats ≡ Some c.in-Some.i =
+    ap (λ (x : SharedSeen). position (is_of c.args.ticket) x.seats) (sym c.self.view_is)
+    ∙ ap (position (is_of c.args.ticket)) (sym c.deref.ensures.value) ∙ sym c.find.ensures ∙ c.in-Some.is in
+    let s = the_seat c.args.ticket c.args.self.now.seats c.in-Some.i e in
+    ap (λ (x : SharedSeen). x.region) (c.store_next.ensures.stepped s.0 s.1)
+    ∙ stepped_in h c.args.self.now c.in-Some.i c.args.ticket s.0 call l s.1 s.2 is
+
+pub returns-in-None-clause-stored : goal.returns-in-None-clause-stored
+returns-in-None-clause-stored c = λ h call l is.
+    let e : position (is_of c.args.ticket) c.args.self.now.seats ≡ None =
+    ap (λ (x : SharedSeen). position (is_of c.args.ticket) x.seats) (sym c.self.view_is)
+    ∙ ap (position (is_of c.args.ticket)) (sym c.deref.ensures.value) ∙ sym c.find.ensures ∙ c.in-None.is in
+    absurd (none_open h c.args.self.now c.args.ticket call l e is)

@@ -1,12 +1,12 @@
 -- At the end nothing is handed out; before it the next word or run is, the same on every image,
 -- and never nothing. For `next_data`.
-use Rattle.std.proofs.Common.{◌≡◌, ℕ, [], length, sym, ap, ◌∙◌, subst, take, drop, arith}
+use Rattle.std.proofs.Common.{◌≡◌, ℕ, [], ◌++◌, length, refl, sym, ap, ◌∙◌, subst, take, drop, arith}
 use Rattle.zone_spec.specs.Parts.{AreBytes}
 use Rattle.zone_spec.specs.Stores.{after_stores}
 use Rattle.zone_spec.specs.Calls.{call_stores}
 use Rattle.store_steps.specs.Handed.{handed, handed_by}
 use Rattle.store_steps.specs.Flying.{Flying, flying}
-use Rattle.store_steps.specs.Machine.{StandsFor, next_stores}
+use Rattle.store_steps.specs.Machine.{StandsFor, next_stores, stores_left}
 use Rattle.store_steps.proofs.FlightSteps.{ends}
 use Rattle.store_steps.proofs.FlightImage.{next_is}
 use Rattle.store_steps.proofs.HandOut.{call_of_bytes, no_bytes}
@@ -35,6 +35,13 @@ returns-then-is_finished-clause-some c = λ h.
 pub returns-then-is_finished-clause-inside : goal.returns-then-is_finished-clause-inside
 returns-then-is_finished-clause-inside c =
     c.set_nothing.ensures.inside c.args.self.now.zone.size c.args.line.now c.args.payload.now
+
+pub returns-then-is_finished-clause-coming : goal.returns-then-is_finished-clause-coming
+unfolding after_stores
+returns-then-is_finished-clause-coming c = λ now bytes.
+    let f : Flying = flying c.args.self.now c.args.line.now c.args.payload.now in
+    subst (λ ss. stores_left f now ≡ ss ++ stores_left f (after_stores now ss))
+    (sym (c.set_nothing.ensures.handed c.args.line.now c.args.payload.now)) refl
 
 -- ---- before it the next stores of the phase are
 
@@ -101,3 +108,10 @@ returns-clause-most c =
     let len = ap length (c.give_data.ensures.stores [])
     ∙ data_length f [] c.next_count-count.result c.requires.data c.next_count-count.ensures.ready in
     omega (arith, len, c.next_count-count.ensures.most)
+
+pub returns-clause-coming : goal.returns-clause-coming
+returns-clause-coming c = λ now bytes.
+    let f : Flying = flying c.args.self.now c.args.line.now c.args.payload.now in
+    let g : Flying = flying c.move_on.new.self c.args.line.now c.args.payload.now in
+    subst (λ ss. stores_left f now ≡ ss ++ stores_left g (after_stores now ss))
+    (sym (c.give_data.ensures.stores now)) (c.move_on.ensures.coming now bytes)

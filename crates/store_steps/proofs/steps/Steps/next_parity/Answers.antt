@@ -1,11 +1,11 @@
 -- What is handed out is the next parity, the same on every image with this header and data, and
 -- never nothing. For `next_parity`.
-use Rattle.std.proofs.Common.{◌≡◌, ℕ, ◌<◌, length, sym, ap, ◌∙◌, subst, take, drop, arith}
+use Rattle.std.proofs.Common.{◌≡◌, ℕ, ◌<◌, List, ◌++◌, length, sym, ap, ◌∙◌, subst, take, drop, arith}
 use Rattle.zone_spec.specs.Parts.{AreBytes}
 use Rattle.zone_spec.specs.Stores.{after_stores}
 use Rattle.zone_spec.specs.Calls.{call_stores}
 use Rattle.store_steps.specs.Flying.{Flying, flying}
-use Rattle.store_steps.specs.Machine.{StandsFor, IsSameData, next_stores}
+use Rattle.store_steps.specs.Machine.{StandsFor, IsSameData, next_stores, stores_left}
 use Rattle.store_steps.proofs.FlightSteps.{next_length}
 use Rattle.store_steps.proofs.FlightImage.{next_is}
 use Rattle.store_steps.proofs.HandOut.{call_of_bytes}
@@ -79,3 +79,11 @@ returns-clause-most c =
     let len = ap length c.give_parities.ensures.stores
     ∙ next_length f c.args.image.now n (λ i. omega (arith, c.type_inv.image i)) c.next_count-count.ensures.ready in
     omega (arith, len, c.next_count-count.ensures.most)
+
+pub returns-clause-coming : goal.returns-clause-coming
+returns-clause-coming c =
+    let f : Flying = flying c.args.self.now c.args.line.now c.args.payload.now in
+    let g : Flying = flying c.move_on.new.self c.args.line.now c.args.payload.now in
+    let image : List ℕ = c.args.image.now in
+    subst (λ ss. stores_left f image ≡ ss ++ stores_left g (after_stores image ss))
+    (sym c.give_parities.ensures.stores) (c.move_on.ensures.coming image (λ i. omega (arith, c.type_inv.image i)))

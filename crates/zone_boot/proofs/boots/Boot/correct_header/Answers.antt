@@ -27,3 +27,7 @@ returns-then-is_empty-clause-some c = λ e.
 pub returns-else-is_empty-clause-some : goal.returns-else-is_empty-clause-some
 returns-else-is_empty-clause-some c = λ e. absurd
     (let t : false ≡ true = sym c.if-is_empty.false ∙ c.is_empty.ensures.1 e in cc)
+
+pub returns-else-is_empty-clause-ends : goal.returns-else-is_empty-clause-ends
+returns-else-is_empty-clause-ends c = λ e. absurd
+    (let t : false ≡ true = sym c.if-is_empty.false ∙ c.is_empty.ensures.1 e in cc)

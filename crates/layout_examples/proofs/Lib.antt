@@ -1,0 +1,2 @@
+-- Each row computes. The functions of this crate cite them.
+mod Worked
