@@ -3,7 +3,7 @@
  *
  * Every call works on memory of the caller's and keeps nothing between calls. Calls may run in several threads at once;
  * that is tested, and no proof says it. All numbers are in the machine's own order; bytes of a region are as the kernel
- * stores them. docs/LIBRARY.md has examples, and what is proved.
+ * stores them. docs/LIBRARY.md has examples, and docs/CLAIMS.md what is proved.
  *
  * A call is undefined only if a pointer is not what it should be: the first byte of so many bytes (or so many structs)
  * that stand there for the whole call, and that nothing else reads or writes meanwhile if the call may write them. Two
@@ -34,7 +34,7 @@ extern "C" {
 enum {
 	OOPSBOX_DONE = 0,      /* all was done */
 	OOPSBOX_FAULT = 3,     /* the parameters are faulty, or have no layout */
-	OOPSBOX_SHORT = 4,     /* the image ends before the zone does */
+	OOPSBOX_SHORT = 4,     /* the image ends before the zone, or has fewer bytes than the layout */
 	OOPSBOX_ROOM = 12,     /* a slice of the caller's is too short; each call says which length it needs */
 	OOPSBOX_ARGUMENT = 13, /* an argument is outside its range; nothing was written */
 	OOPSBOX_MEMORY = 14,   /* malloc answered NULL; nothing was written */
@@ -247,7 +247,9 @@ uint32_t oopsbox_dump_begin(const struct oopsbox_zone_place *place, const uint8_
  * an erasure have no line, an erasure no payload). A flight of a begin that succeeded is never refused while these stay
  * so. Ask for as many as can be made at once: with most 1 a part's parity is computed again for each byte.
  *
- * One answer goes up to the next parity: an append without parity has one answer, one with parity mostly two.
+ * An answer ends before the next parity, at `most` stores, at four rows, or at the call's end. So ask until is_last is
+ * 1. Mostly an append without parity has one answer, and one with parity has two. Of oopsbox_append it is proved that
+ * without parity its answer is the whole append.
  *
  * OOPSBOX_DONE: *stores are the next ones, at least one where one is left, and at most `most`; *flight stands after
  * them. stores->is_last is 1 if none is left then. Who asks again gets none, and is_last again.
@@ -261,8 +263,8 @@ uint32_t oopsbox_flight_next(struct oopsbox_flight *flight, const uint8_t *zone,
 
 /*
  * oopsbox_append_begin and the first oopsbox_flight_next in one call: begins to append payload[0 .. payload_len), and
- * hands out the first stores, up to the first parity. Of an append without parity these are all: is_last is 1. Where
- * it is 0, make the stores and go on with oopsbox_flight_next.
+ * hands out its first stores, as that call does with `most` UINT32_MAX. Of an append without parity these are all:
+ * is_last is 1. Where it is 0, make the stores and go on with oopsbox_flight_next.
  *
  * OOPSBOX_DONE: *flight and *stores were written. OOPSBOX_ARGUMENT, OOPSBOX_CLOSED: as oopsbox_append_begin; nothing was
  * written.
