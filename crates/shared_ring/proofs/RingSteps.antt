@@ -1,5 +1,5 @@
 -- A reservation and a step of a shared zone are the definitions'
-use Rattle.std.proofs.Common.{◌≡◌, ◌≢◌, ℕ, suc, ◌+◌, ◌%◌, ◌<◌, min, Bool, true, false, cond, ◌==◌, List, [], ◌∷◌, ◌++◌}
+use Rattle.std.proofs.Common.{◌≡◌, ◌≢◌, ℕ, suc, ◌+◌, ◌%◌, ◌<◌, Bool, true, false, cond, ◌==◌, List, [], ◌∷◌, ◌++◌}
 use Rattle.std.proofs.Common.{length, map, take, drop, set, refl, sym, ap, ap₂, ◌∙◌, subst, arith, Some, None, Option}
 use Rattle.std.proofs.Common.{Ok, Err, inl, inr, eq-eqb, append-nil, length-append, length-set}
 use Rattle.std.proofs.lemmas.Bool.{cases_order, lt-ltb, ltb-true}
@@ -32,7 +32,6 @@ use Rattle.shared_ring.proofs.Tickets.{AreRising, after_own}
 use Rattle.prz_region.proofs.Cuts.{spans-length}
 use Rattle.shared_ring.proofs.Regions.{before_stored, after_stored, one_stored}
 use Rattle.shared_ring.proofs.RingView.{shown_at, rising, seat_place, no_call, the_seat}
-use Rattle.zone_spec.specs.WordBytes.{word_bytes}
 
 -- ---- a reservation
 
