@@ -1,6 +1,7 @@
 -- A script's lines, done one by one on the block store
 use Rattle.std.proofs.Common.{◌≡◌, ℕ, zero, suc, ◌+◌, ◌<◌, ◌≤◌, List, [], ◌∷◌, ◌++◌, length, take, get_or, slice_get}
-use Rattle.std.proofs.Common.{Option, Some, None, Result, Ok, Err, refl, sym, ap, ◌∙◌, arith, length-append}
+use Rattle.std.proofs.Common.{Option, Some, None, Result, Ok, Err, refl, sym, ap, ◌∙◌, ◌⊎◌, inl, inr, arith}
+use Rattle.std.proofs.Common.{length-append}
 use Rattle.std.proofs.lemmas.List.Sums.{fold_more}
 use Rattle.std.proofs.lemmas.List.Folds.{fold_stuck}
 use Rattle.std.proofs.lemmas.Option.{slice_get_read}
@@ -13,6 +14,7 @@ use Rattle.blk_spec.specs.States.{BlkState}
 use Rattle.blk_spec.specs.Session.{Session}
 use Rattle.grammar_spec.specs.Fields.{Text}
 use Rattle.grammar_spec.specs.declared.line.Line.{Line}
+use Rattle.grammar_spec.specs.declared.line.Line.TheVariants.{Boot}
 use Rattle.blk_spec.specs.Writes.{bytes_in}
 use Rattle.blk_spec.specs.Answers.{Device, HasFront}
 use Rattle.script_spec.specs.BlkScripts.{BlkDone, BlkRan, blk_ran, blk_ran_on, blk_next_line, blk_started}
@@ -24,7 +26,8 @@ use Rattle.script_spec.specs.declared.Cause.{Cause}
 use Rattle.script_spec.specs.declared.LineStop.{LineStop}
 use Rattle.script_spec.specs.declared.LineStop.TheVariants.{Memory, StoreFault, SinkFault, Refused}
 use Rattle.script_laws.proofs.Play.{Extends, extends_self, extends_on, front_of, whole_more}
-use Rattle.blk_session.specs.Playing.{Seen, Puts, LineStops}
+use Rattle.blk_session.specs.Playing.{Seen, Puts, LineStops, StopsLoading}
+use Rattle.blk_session.proofs.Writes.{line-unasked}
 
 -- ---- texts only grow
 
@@ -178,7 +181,8 @@ module _ (layout : BlkLayout) (bytes : List ℕ) (lines : List Line) (i : ℕ) (
           count = one_more d l.done;
           texts = rw (e, whole_more so_far.texts puts.text) (Appends-trans a.given b.given c.given (whole so_far.texts)
               puts.text p.texts puts.put);
-          unwritten = λ none. puts.done.asks.unwritten (writes_none (in_all d l.done) none) ∙ p.unwritten none;
+          unwritten = λ none. line-unasked layout blk line b.store c.store puts.done.asked
+              (writes_none (in_all d l.done) none) ∙ p.unwritten none;
         }
 
     pub on_stop : (stop : LineStop) (c : Seen) → LineStops stop layout blk line (i + 1) b c
@@ -257,12 +261,32 @@ module _ (layout : BlkLayout) (bytes : List ℕ) (lines : List Line) (i : ℕ) (
     stays_on Memory c h none = h.1.0.1 ∙ p.unwritten none
     stays_on StoreFault c h none =
         let w = h.1.1.wanted p.store in
-        h.1.1.asks.unwritten (writes_none (in_all w.wants w.is) none) ∙ p.unwritten none
+        h.1.1.unwritten (writes_none (in_all w.wants w.is) none) ∙ p.unwritten none
     stays_on SinkFault c h none =
         let l = h.1.done.told p.store p.holds in
         let d : BlkDone = record { session = record { store = l.after; blk = h.1.new }; text = h.1.text } in
-        h.1.done.asks.unwritten (writes_none (in_all d l.done) none) ∙ p.unwritten none
+        line-unasked layout blk line b.store c.store h.1.done.asked (writes_none (in_all d l.done) none)
+        ∙ p.unwritten none
     stays_on (Refused n cause) c h none = ap (λ (d : Device). d.writes) h.2.0 ∙ p.unwritten none
+
+    -- a loading that failed as it read
+    loads_next : (c : Seen) → line ≡ Boot → c.store.holds ≡ b.store.holds
+        → StopsLoading layout bytes lines c.store.holds
+    loads_next c loads same = record {
+      count = i;
+      next = line_at ∙ ap Some loads;
+      holds = same ∙ p.holds ∙ ap (λ (s : Session). Some s.store) (sym p.session);
+    }
+
+    pub reads_on : (stop : LineStop) (c : Seen) → LineStops stop layout blk line (i + 1) b c
+        → (c.store.read_faults ≡ b.store.read_faults) ⊎ StopsLoading layout bytes lines c.store.holds
+    reads_on Memory c h = elim h.1.3 [ | inl loads ↦ inr (loads_next c loads h.1.0.0) | inr same ↦ inl same ]
+    reads_on StoreFault c h = elim h.1.1.unread [
+      | inl first ↦ inr (loads_next c first.0 first.1.0)
+      | inr same ↦ inl same
+    ]
+    reads_on SinkFault c h = inl h.1.done.unread
+    reads_on (Refused n cause) c h = inl (ap (λ (d : Device). d.read_faults) h.2.0)
 
 module _ (layout : BlkLayout) (lines : List Line) (i : ℕ) (line : Line) (below : i < length lines)
     (is : line ≡ get_or lines i line) (blk : Option BlkState) (a b : Seen)
@@ -279,6 +303,16 @@ module _ (layout : BlkLayout) (lines : List Line) (i : ℕ) (line : Line) (below
       → a.store.holds ≡ Some bytes → WriteNothing layout bytes lines → c.store.writes ≡ a.store.writes
   plays_unwritten stop c h bytes told none =
       stays_on layout bytes lines i line below is blk a b (so_far bytes told) stop c h none
+
+  -- no reading failed before
+  pub plays_unread : b.store.read_faults ≡ a.store.read_faults → (stop : LineStop) (c : Seen)
+      → LineStops stop layout blk line (i + 1) b c → (bytes : List ℕ) → a.store.holds ≡ Some bytes
+      → (c.store.read_faults ≡ a.store.read_faults) ⊎ StopsLoading layout bytes lines c.store.holds
+  plays_unread none stop c h bytes told =
+      elim (reads_on layout bytes lines i line below is blk a b (so_far bytes told) stop c h) [
+        | inl same ↦ inl (same ∙ none)
+        | inr loads ↦ inr loads
+      ]
 
 pub plays_all : (layout : BlkLayout) (lines : List Line) (i : ℕ) (blk : Option BlkState) (a b : Seen)
     → length lines ≤ i → PlaysSoFar layout lines i blk a b → Plays (Ok tt) layout lines a b

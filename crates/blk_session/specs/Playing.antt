@@ -1,5 +1,5 @@
 -- A line of a script done on the block store, and its text put
-use Rattle.std.specs.Prelude.{◌≡◌, ℕ, ◌≤◌, List, Option}
+use Rattle.std.specs.Prelude.{◌≡◌, ℕ, ◌≤◌, List, take, slice_get, Option, Some}
 use Rattle.std.specs.Io.KnownBytes.{Appends}
 use Rattle.outside.specs.Outside.{AppendsFront, Rose}
 use Rattle.blk_spec.specs.declared.BlkLayout.{BlkLayout}
@@ -7,6 +7,8 @@ use Rattle.blk_spec.specs.States.{BlkState}
 use Rattle.blk_spec.specs.Answers.{Device}
 use Rattle.grammar_spec.specs.Fields.{Text}
 use Rattle.grammar_spec.specs.declared.line.Line.{Line}
+use Rattle.grammar_spec.specs.declared.line.Line.TheVariants.{Boot}
+use Rattle.script_spec.specs.BlkScripts.{blk_ran}
 use Rattle.script_spec.specs.declared.LineStop.{LineStop}
 use Rattle.script_spec.specs.declared.LineStop.TheVariants.{Memory, StoreFault, SinkFault, Refused}
 use Rattle.blk_session.specs.declared.errors.LineError.TheVariants.{Memory as MemoryThere}
@@ -52,3 +54,9 @@ LineStops (Refused n cause) layout old line number a b =
 pub record Later (a b : Seen) : Type 0 where
   pub store : a.store_faults ≤ b.store_faults
   pub sink : a.sink_faults ≤ b.sink_faults
+
+-- some first lines were done, and the next is to load the store, which holds what these lines leave
+pub record StopsLoading (layout : BlkLayout) (bytes : List ℕ) (lines : List Line) (now : Option (List ℕ)) : Type 0 where
+  pub count : ℕ
+  pub next : slice_get lines count ≡ Some Boot
+  pub holds : now ≡ Some (blk_ran layout bytes (take count lines)).session.store
