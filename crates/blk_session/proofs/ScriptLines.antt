@@ -16,7 +16,7 @@ use Rattle.grammar_spec.specs.Fields.{Text}
 use Rattle.grammar_spec.specs.declared.line.Line.{Line}
 use Rattle.grammar_spec.specs.declared.line.Line.TheVariants.{Boot}
 use Rattle.blk_spec.specs.Writes.{bytes_in}
-use Rattle.blk_spec.specs.Answers.{Device, HasFront}
+use Rattle.blk_spec.specs.Answers.{Device, HasFront, IsUnwritten, further}
 use Rattle.script_spec.specs.BlkScripts.{BlkDone, BlkRan, blk_ran, blk_ran_on, blk_next_line, blk_started}
 use Rattle.script_spec.specs.BlkScripts.{blk_line_done, line_writes, WriteNothing}
 use Rattle.script_spec.specs.Texts.{front, whole}
@@ -26,8 +26,10 @@ use Rattle.script_spec.specs.declared.Cause.{Cause}
 use Rattle.script_spec.specs.declared.LineStop.{LineStop}
 use Rattle.script_spec.specs.declared.LineStop.TheVariants.{Memory, StoreFault, SinkFault, Refused}
 use Rattle.script_laws.proofs.Play.{Extends, extends_self, extends_on, front_of, whole_more}
+use Rattle.blk_session.specs.Asked.{line_asks, asks_from, lines_ask}
 use Rattle.blk_session.specs.Playing.{Seen, Puts, LineStops, StopsLoading}
 use Rattle.blk_session.proofs.Writes.{line-unasked}
+use Rattle.zone_blk.proofs.Effects.{further-more}
 
 -- ---- texts only grow
 
@@ -75,6 +77,20 @@ text_at texts text long i e h = rw (h.is, ← e) (behind texts h.more)
     behind [] more = refl
     behind (t ∷ texts) more = behind texts more
 
+-- ---- how often lines ask
+
+asks_more : (layout : BlkLayout) (lines : List Line) (r : BlkRan) (i : ℕ) (line : Line) → i < length lines
+    → asks_from layout r (take (i + 1) lines) ≡ asks_from layout r (take i lines)
+    + line_asks layout (fold (blk_next_line layout) r (take i lines)).session.blk (get_or lines i line)
+unfolding asks_from
+asks_more layout [] r i line below = absurd (omega (arith, below))
+asks_more layout (x ∷ lines) r zero line below = omega arith
+asks_more layout (x ∷ lines) r (suc i) line below =
+    let more : take (suc i + 1) (x ∷ lines) ≡ x ∷ take (i + 1) lines =
+    ap (λ (n : ℕ). take n (x ∷ lines)) (omega arith) in
+    ap (asks_from layout r) more
+    ∙ omega (arith, asks_more layout lines (blk_next_line layout r x) i line (omega (arith, below)))
+
 -- ---- one line more
 
 on_done : (r : BlkRan) (c : Option Cause) (next : Result BlkDone Cause) (d : BlkDone) → c ≡ None → next ≡ Ok d
@@ -95,6 +111,7 @@ pub record PlaysTo (layout : BlkLayout) (bytes : List ℕ) (lines : List Line) (
   pub count : length (blk_ran layout bytes (take i lines)).texts ≡ i
   pub texts : Appends a.given b.given (whole (blk_ran layout bytes (take i lines)).texts)
   pub unwritten : WriteNothing layout bytes lines → b.store.writes ≡ a.store.writes
+  pub asked : b.store.writes ≡ further (lines_ask layout bytes (take i lines)) a.store.writes
 
 abbrev pub PlaysSoFar : BlkLayout → List Line → ℕ → Option BlkState → Seen → Seen → Type 0
 PlaysSoFar layout lines i blk a b = (bytes : List ℕ) → a.store.holds ≡ Some bytes → PlaysTo layout bytes lines i blk a b
@@ -105,6 +122,7 @@ Plays e layout lines a b = (bytes : List ℕ) → a.store.holds ≡ Some bytes
     → EndsAt e layout bytes lines a.given b.given b.store.holds
 
 pub plays_none : (layout : BlkLayout) (lines : List Line) (a : Seen) → PlaysSoFar layout lines 0 None a a
+unfolding asks_from
 plays_none layout lines a bytes told = record {
   store = bytes;
   holds = told;
@@ -113,6 +131,7 @@ plays_none layout lines a bytes told = record {
   count = refl;
   texts = Appends-nil a.given;
   unwritten = λ none. refl;
+  asked = refl;
 }
 
 module _ (layout : BlkLayout) (bytes : List ℕ) (lines : List Line) (i : ℕ) (line : Line) (below : i < length lines)
@@ -167,6 +186,13 @@ module _ (layout : BlkLayout) (bytes : List ℕ) (lines : List Line) (i : ℕ) (
         → bytes_in (line_writes layout blk line) ≡ 0
     writes_none done none = rw p.session at (none i line done line_at)
 
+    -- the line asks so often more
+    asks_next : lines_ask layout bytes (take (i + 1) lines)
+        ≡ lines_ask layout bytes (take i lines) + line_asks layout blk line
+    asks_next = asks_more layout lines (blk_started bytes) i line below
+        ∙ ap (λ (x : Line). lines_ask layout bytes (take i lines) + line_asks layout so_far.session.blk x) (sym is)
+        ∙ ap (λ (s : Session). lines_ask layout bytes (take i lines) + line_asks layout s.blk line) p.session
+
     pub on_next : (next : Option BlkState) (c : Seen) → Puts layout blk line next b c
         → PlaysTo layout bytes lines (i + 1) next a c
     on_next next c puts =
@@ -183,6 +209,9 @@ module _ (layout : BlkLayout) (bytes : List ℕ) (lines : List Line) (i : ℕ) (
               puts.text p.texts puts.put);
           unwritten = λ none. line-unasked layout blk line b.store c.store puts.done.asked
               (writes_none (in_all d l.done) none) ∙ p.unwritten none;
+          asked = puts.done.asked ∙ ap (further (line_asks layout blk line)) p.asked
+              ∙ further-more (lines_ask layout bytes (take i lines)) (line_asks layout blk line) a.store.writes
+              ∙ ap (λ (n : ℕ). further n a.store.writes) (sym asks_next);
         }
 
     pub on_stop : (stop : LineStop) (c : Seen) → LineStops stop layout blk line (i + 1) b c
@@ -270,19 +299,20 @@ module _ (layout : BlkLayout) (bytes : List ℕ) (lines : List Line) (i : ℕ) (
     stays_on (Refused n cause) c h none = ap (λ (d : Device). d.writes) h.2.0 ∙ p.unwritten none
 
     -- a loading that failed as it read
-    loads_next : (c : Seen) → line ≡ Boot → c.store.holds ≡ b.store.holds
-        → StopsLoading layout bytes lines c.store.holds
+    loads_next : (c : Seen) → line ≡ Boot → IsUnwritten b.store c.store
+        → StopsLoading layout bytes lines a.store c.store
     loads_next c loads same = record {
       count = i;
       next = line_at ∙ ap Some loads;
-      holds = same ∙ p.holds ∙ ap (λ (s : Session). Some s.store) (sym p.session);
+      holds = same.0 ∙ p.holds ∙ ap (λ (s : Session). Some s.store) (sym p.session);
+      asked = same.1 ∙ p.asked;
     }
 
     pub reads_on : (stop : LineStop) (c : Seen) → LineStops stop layout blk line (i + 1) b c
-        → (c.store.read_faults ≡ b.store.read_faults) ⊎ StopsLoading layout bytes lines c.store.holds
-    reads_on Memory c h = elim h.1.3 [ | inl loads ↦ inr (loads_next c loads h.1.0.0) | inr same ↦ inl same ]
+        → (c.store.read_faults ≡ b.store.read_faults) ⊎ StopsLoading layout bytes lines a.store c.store
+    reads_on Memory c h = elim h.1.3 [ | inl loads ↦ inr (loads_next c loads h.1.0) | inr same ↦ inl same ]
     reads_on StoreFault c h = elim h.1.1.unread [
-      | inl first ↦ inr (loads_next c first.0 first.1.0)
+      | inl first ↦ inr (loads_next c first.0 first.1)
       | inr same ↦ inl same
     ]
     reads_on SinkFault c h = inl h.1.done.unread
@@ -307,7 +337,7 @@ module _ (layout : BlkLayout) (lines : List Line) (i : ℕ) (line : Line) (below
   -- no reading failed before
   pub plays_unread : b.store.read_faults ≡ a.store.read_faults → (stop : LineStop) (c : Seen)
       → LineStops stop layout blk line (i + 1) b c → (bytes : List ℕ) → a.store.holds ≡ Some bytes
-      → (c.store.read_faults ≡ a.store.read_faults) ⊎ StopsLoading layout bytes lines c.store.holds
+      → (c.store.read_faults ≡ a.store.read_faults) ⊎ StopsLoading layout bytes lines a.store c.store
   plays_unread none stop c h bytes told =
       elim (reads_on layout bytes lines i line below is blk a b (so_far bytes told) stop c h) [
         | inl same ↦ inl (same ∙ none)
@@ -324,6 +354,14 @@ plays_all layout lines i blk a b all so_far bytes told =
       texts = rw same at p.texts;
       holds = p.holds ∙ ap (λ (s : Session). Some s.store) (sym (rw same at p.session));
     }
+
+pub asked_all : (layout : BlkLayout) (lines : List Line) (i : ℕ) (blk : Option BlkState) (a b : Seen)
+    → length lines ≤ i → PlaysSoFar layout lines i blk a b → (bytes : List ℕ) → a.store.holds ≡ Some bytes
+    → b.store.writes ≡ further (lines_ask layout bytes lines) a.store.writes
+asked_all layout lines i blk a b all so_far bytes told =
+    let p : PlaysTo layout bytes lines i blk a b = so_far bytes told in
+    let same : take i lines ≡ lines = take_all i lines all in
+    p.asked ∙ ap (λ (ls : List Line). further (lines_ask layout bytes ls) a.store.writes) same
 
 -- a stop's cause, whether the store tells its bytes or not
 pub stop_caused : (stop : LineStop) (layout : BlkLayout) (blk : Option BlkState) (line : Line) (number : ℕ)

@@ -1,5 +1,5 @@
 -- What a line asks of the store: how often to write, and what it was asked for last where it failed
-use Rattle.std.specs.Prelude.{◌⊎◌, ℕ, List, length, Option, Some, None}
+use Rattle.std.specs.Prelude.{◌⊎◌, ℕ, ◌+◌, List, [], ◌∷◌, length, Option, Some, None}
 use Rattle.blk_spec.specs.declared.BlkLayout.{BlkLayout}
 use Rattle.blk_spec.specs.declared.BlkCut.{BlkCut}
 use Rattle.blk_spec.specs.declared.BlkCut.TheVariants.{Uncut}
@@ -8,7 +8,7 @@ use Rattle.blk_spec.specs.States.{BlkState, load_writes, append_of, dump_of, dum
 use Rattle.blk_spec.specs.Session.{Operation, Load, Append, Dump, Erase}
 use Rattle.blk_spec.specs.Answers.{Device, FailsWithin, IsUnwritten}
 use Rattle.grammar_spec.specs.declared.line.Line.{Line}
-use Rattle.script_spec.specs.BlkScripts.{operation_of}
+use Rattle.script_spec.specs.BlkScripts.{operation_of, BlkRan, blk_next_line, blk_started}
 
 -- ---- how often to write: once for each piece of which a byte reaches the store
 
@@ -33,6 +33,16 @@ asks_if layout old (Some operation) = asks_by layout old operation
 
 abbrev pub line_asks : BlkLayout → Option BlkState → Line → ℕ
 line_asks layout old line = asks_if layout old (operation_of old line)
+
+-- lines one after another, from what was done before them on
+unfoldable pub asks_from : BlkLayout → BlkRan → List Line → ℕ
+asks_from layout ran [] = 0
+asks_from layout ran (line ∷ lines) =
+    line_asks layout ran.session.blk line + asks_from layout (blk_next_line layout ran line) lines
+
+-- of a script on a store's bytes
+abbrev pub lines_ask : BlkLayout → List ℕ → List Line → ℕ
+lines_ask layout store lines = asks_from layout (blk_started store) lines
 
 -- ---- where the store failed
 

@@ -4,7 +4,7 @@ use Rattle.std.specs.Io.KnownBytes.{Appends}
 use Rattle.outside.specs.Outside.{AppendsFront, Rose}
 use Rattle.blk_spec.specs.declared.BlkLayout.{BlkLayout}
 use Rattle.blk_spec.specs.States.{BlkState}
-use Rattle.blk_spec.specs.Answers.{Device}
+use Rattle.blk_spec.specs.Answers.{Device, further}
 use Rattle.grammar_spec.specs.Fields.{Text}
 use Rattle.grammar_spec.specs.declared.line.Line.{Line}
 use Rattle.grammar_spec.specs.declared.line.Line.TheVariants.{Boot}
@@ -14,6 +14,7 @@ use Rattle.script_spec.specs.declared.LineStop.TheVariants.{Memory, StoreFault, 
 use Rattle.blk_session.specs.declared.errors.LineError.TheVariants.{Memory as MemoryThere}
 use Rattle.blk_session.specs.declared.errors.LineError.TheVariants.{StoreFault as StoreFaultThere}
 use Rattle.blk_session.specs.declared.errors.LineError.TheVariants.{Refused as RefusedThere}
+use Rattle.blk_session.specs.Asked.{lines_ask}
 use Rattle.blk_session.specs.Lines.{LineDone, LineFails}
 
 -- the store and what the output was given at one moment, each as far as it is told, with the counts of faults
@@ -55,8 +56,10 @@ pub record Later (a b : Seen) : Type 0 where
   pub store : a.store_faults ≤ b.store_faults
   pub sink : a.sink_faults ≤ b.sink_faults
 
--- some first lines were done, and the next is to load the store, which holds what these lines leave
-pub record StopsLoading (layout : BlkLayout) (bytes : List ℕ) (lines : List Line) (now : Option (List ℕ)) : Type 0 where
+-- some first lines were done, and the next is to load the store, which holds what these lines leave and was asked to
+-- write as often as they ask
+pub record StopsLoading (layout : BlkLayout) (bytes : List ℕ) (lines : List Line) (before now : Device) : Type 0 where
   pub count : ℕ
   pub next : slice_get lines count ≡ Some Boot
-  pub holds : now ≡ Some (blk_ran layout bytes (take count lines)).session.store
+  pub holds : now.holds ≡ Some (blk_ran layout bytes (take count lines)).session.store
+  pub asked : now.writes ≡ further (lines_ask layout bytes (take count lines)) before.writes

@@ -12,14 +12,14 @@ use Rattle.blk_session.specs.Playing.{StopsLoading}
 abbrev pub UnwrittenOrRead : Device → Device → Type 0
 UnwrittenOrRead before now = IsUnwritten before now ⊎ (now.read_faults ≡ before.read_faults)
 
--- some of these lines were done, and the next is to load the store, which holds what they leave
-abbrev pub StopsAtLoad : BlkLayout → List ℕ → Result (List Line) Stop → Option (List ℕ) → Type 0
-StopsAtLoad layout bytes (Ok lines) now = StopsLoading layout bytes lines now
-StopsAtLoad layout bytes (Err stop) now = ⊥
+-- some of these lines were done, and the next is to load the store, of which nothing was written
+abbrev pub StopsAtLoad : BlkLayout → List ℕ → Result (List Line) Stop → Device → Device → Type 0
+StopsAtLoad layout bytes (Ok lines) before now = StopsLoading layout bytes lines before now
+StopsAtLoad layout bytes (Err stop) before now = ⊥
 
 -- a script on the block store reads at its lines `boot` too, behind lines that wrote
 abbrev pub PlanUnread : Result Plan Stop → Option (List ℕ) → Device → Device → Type 0
 PlanUnread (Ok (OfBlk layout)) left before now = (bytes script : List ℕ) → before.holds ≡ Some bytes
-    → left ≡ Some script → UnwrittenOrRead before now ⊎ StopsAtLoad layout bytes (blk_lines layout bytes script)
-    now.holds
+    → left ≡ Some script
+    → UnwrittenOrRead before now ⊎ StopsAtLoad layout bytes (blk_lines layout bytes script) before now
 PlanUnread other left before now = UnwrittenOrRead before now

@@ -1,10 +1,11 @@
 -- A line refused, or with its text unprinted, ends the script as defined; a done one goes on, and
 -- after the last all is done. For `play`.
-use Rattle.std.proofs.Common.{◌∙◌, ◌+◌, arith, inl}
+use Rattle.std.proofs.Common.{◌∙◌, ◌+◌, arith, inl, refl}
 use Rattle.blk_spec.specs.Answers.{device}
 use Rattle.blk_session.specs.Playing.{Seen, seen}
-use Rattle.blk_session.proofs.ScriptLines.{plays_next, plays_stop, plays_unwritten, plays_unread, plays_all}
-use Rattle.blk_session.proofs.LineTexts.{next_text, stopped_text}
+use Rattle.blk_session.proofs.ScriptLines.{plays_none, plays_next, plays_stop, plays_unwritten, plays_unread}
+use Rattle.blk_session.proofs.ScriptLines.{plays_all, asked_all}
+use Rattle.blk_session.proofs.LineTexts.{text_none, next_text, stopped_text}
 use Rattle.blk_session.proofs.playing.play.Goals as goal
 
 pub returns-in-Err-clause-played : goal.returns-in-Err-clause-played
@@ -74,6 +75,22 @@ returns-in-Err-clause-put g c =
     stopped_text c.args.layout c.loop-i.blk c.index-lines-i.result a b c.loop-i.invariant.put c.in-Err.stop
     (c.loop-i.i + 1) d c.in-Err.ensures.played
 
+pub loop-i-init : goal.loop-i-init
+loop-i-init g c =
+    let a : Seen = seen (device (g.S.Load.holds c.args.store.now) (g.S.Load.writes c.args.store.now)
+    (g.S.Load.read_faults c.args.store.now))
+    (g.S.Load.faults c.args.store.now) (g.O.Sink.given c.args.out.now) (g.O.Sink.faults c.args.out.now) in
+    record {
+      loaded = tt;
+      room = c.requires.room;
+      later = record { store = omega arith; sink = omega arith };
+      kept_store = refl;
+      kept_sink = refl;
+      unread = refl;
+      put = text_none (g.O.Sink.given c.args.out.now);
+      played = plays_none c.args.layout c.args.lines.now a;
+    }
+
 pub loop-i-preserved : goal.loop-i-preserved
 loop-i-preserved g c =
     let a : Seen = seen (device (g.S.Load.holds c.args.store.now) (g.S.Load.writes c.args.store.now)
@@ -111,6 +128,17 @@ returns-clause-played g c =
     (g.S.Load.read_faults c.loop-i.store))
     (g.S.Load.faults c.loop-i.store) (g.O.Sink.given c.loop-i.out) (g.O.Sink.faults c.loop-i.out) in
     plays_all c.args.layout c.args.lines.now c.loop-i.i c.loop-i.blk a b (omega (arith, c.loop-i-test.false))
+    c.loop-i.invariant.played
+
+pub returns-clause-asked : goal.returns-clause-asked
+returns-clause-asked g c =
+    let a : Seen = seen (device (g.S.Load.holds c.args.store.now) (g.S.Load.writes c.args.store.now)
+    (g.S.Load.read_faults c.args.store.now))
+    (g.S.Load.faults c.args.store.now) (g.O.Sink.given c.args.out.now) (g.O.Sink.faults c.args.out.now) in
+    let b : Seen = seen (device (g.S.Load.holds c.loop-i.store) (g.S.Load.writes c.loop-i.store)
+    (g.S.Load.read_faults c.loop-i.store))
+    (g.S.Load.faults c.loop-i.store) (g.O.Sink.given c.loop-i.out) (g.O.Sink.faults c.loop-i.out) in
+    asked_all c.args.layout c.args.lines.now c.loop-i.i c.loop-i.blk a b (omega (arith, c.loop-i-test.false))
     c.loop-i.invariant.played
 
 pub returns-clause-unwritten : goal.returns-clause-unwritten

@@ -4,7 +4,7 @@ use Rattle.image_file.proofs.Sizes.{size_load}
 use Rattle.command_line.proofs.Script.{load_caused, script_caused}
 use Rattle.command_line.proofs.BlkScript.{size_stopped, script_stopped, play_ended, played_caused, played_asks}
 use Rattle.command_line.proofs.BlkScript.{unless_line}
-use Rattle.blk_spec.specs.Answers.{device}
+use Rattle.blk_spec.specs.Answers.{Device, device}
 use Rattle.command_spec.specs.Ends.{end_of}
 use Rattle.script_spec.specs.declared.LineStop.TheVariants.{StoreFault, SinkFault}
 use Rattle.commands.proofs.WorkEnds.{count_same, count_since, none_asked}
@@ -76,10 +76,15 @@ returns-in-Err-read_lines-clause-put g c = no_text _
 
 pub returns-clause-unread : goal.returns-clause-unread
 returns-clause-unread g c =
-    lines_unread c.args.layout c.in-Ok-read_lines.lines (g.S.Source.left c.args.script.now) _ _
-    (device (g.M.Load.holds c.check_size.new.image) (g.M.Load.writes c.check_size.new.image)
-    (g.M.Load.read_faults c.check_size.new.image)) _ c.in-Ok.ensures.ok c.in-Ok-read_lines.ensures.read
-    c.in-Ok.ensures.same c.in-Ok.ensures.read_counts (rw c.as_slice.ensures at c.play.ensures.unread)
+    let before : Device = device (g.M.Load.holds c.args.image.now) (g.M.Load.writes c.args.image.now)
+    (g.M.Load.read_faults c.args.image.now) in
+    let mid : Device = device (g.M.Load.holds c.check_size.new.image) (g.M.Load.writes c.check_size.new.image)
+    (g.M.Load.read_faults c.check_size.new.image) in
+    let now : Device = device (g.M.Load.holds c.play.new.store) (g.M.Load.writes c.play.new.store)
+    (g.M.Load.read_faults c.play.new.store) in
+    lines_unread c.args.layout c.in-Ok-read_lines.lines (g.S.Source.left c.args.script.now) _ before mid now
+    c.in-Ok.ensures.ok c.in-Ok-read_lines.ensures.read (c.in-Ok.ensures.same, c.in-Ok.ensures.unwritten)
+    c.in-Ok.ensures.read_counts (rw c.as_slice.ensures at c.play.ensures.unread)
 
 pub returns-in-Err-clause-unread : goal.returns-in-Err-clause-unread
 returns-in-Err-clause-unread g c = λ bytes script told here. inl (inl
