@@ -79,17 +79,23 @@ text_at texts text long i e h = rw (h.is, ← e) (behind texts h.more)
 
 -- ---- how often lines ask
 
+first_ask : (n : ℕ) → n + 0 ≡ 0 + n
+first_ask n = omega arith
+
+next_ask : (n k m l : ℕ) → k ≡ m + l → n + k ≡ (n + m) + l
+next_ask n k m l e = omega (arith, e)
+
 asks_more : (layout : BlkLayout) (lines : List Line) (r : BlkRan) (i : ℕ) (line : Line) → i < length lines
     → asks_from layout r (take (i + 1) lines) ≡ asks_from layout r (take i lines)
     + line_asks layout (fold (blk_next_line layout) r (take i lines)).session.blk (get_or lines i line)
 unfolding asks_from
 asks_more layout [] r i line below = absurd (omega (arith, below))
-asks_more layout (x ∷ lines) r zero line below = omega arith
+asks_more layout (x ∷ lines) r zero line below = first_ask (line_asks layout r.session.blk x)
 asks_more layout (x ∷ lines) r (suc i) line below =
-    let more : take (suc i + 1) (x ∷ lines) ≡ x ∷ take (i + 1) lines =
-    ap (λ (n : ℕ). take n (x ∷ lines)) (omega arith) in
-    ap (asks_from layout r) more
-    ∙ omega (arith, asks_more layout lines (blk_next_line layout r x) i line (omega (arith, below)))
+    let one : suc i + 1 ≡ suc (i + 1) = omega arith in
+    ap (λ (n : ℕ). asks_from layout r (take n (x ∷ lines))) one
+    ∙ next_ask (line_asks layout r.session.blk x) _ _ _
+    (asks_more layout lines (blk_next_line layout r x) i line (omega (arith, below)))
 
 -- ---- one line more
 
