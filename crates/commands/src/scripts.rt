@@ -2,6 +2,7 @@
 ghost use Rattle.std.specs.Prelude.{◌≡◌, ◌≤◌, ◌<◌, ◌^◌, length, vec_len, Ok, MatchResult};
 ghost use Rattle.outside.specs.Outside.{HasCause, AppendsFront};
 ghost use Rattle.std.specs.Io.KnownBytes.{Appends};
+ghost use Rattle.blk_spec.specs.Answers.{device};
 ghost use Rattle.ramoops_layout.specs.Laid.{params_of, zones_of};
 ghost use Rattle.grammar_spec.specs.Printed.{AllHaveFields};
 ghost use Rattle.command_spec.specs.Commands.{wanted_script, mem_of};
@@ -117,7 +118,9 @@ pub fn run_script<S: Source, M: Store, O: Sink>(
         (M.faults image.old) (M.writes image.old) (O.given out.old) (O.faults out.old) in
         let after = outside (S.left script.new) (S.faults script.new) (M.holds image.new)
         (M.faults image.new) (M.writes image.new) (O.given out.new) (O.faults out.new) in
-        ScriptDone (session_plan session) before after result }
+        let stood = device (M.holds image.old) (M.writes image.old) (M.read_faults image.old) in
+        let stands = device (M.holds image.new) (M.writes image.new) (M.read_faults image.new) in
+        ScriptDone (session_plan session) before after stood stands result }
 {
     let bytes = match load(alloc, image, session.mem()) {
         Ok(bytes) => bytes,

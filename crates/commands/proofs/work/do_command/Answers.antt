@@ -1,6 +1,6 @@
 -- Each arm of `do_command` has done its command's work, and printed no more than that. `WorkEnds`
 -- turns what an arm promises into it.
-use Rattle.std.proofs.Common.{refl, arith}
+use Rattle.std.proofs.Common.{refl, arith, inl, inr}
 use Rattle.command_spec.specs.Commands.{ShowLayout as ShowLayoutOf, Blank as BlankOf}
 use Rattle.command_line.specs.Words.{plan_for}
 use Rattle.command_line.specs.declared.words.RamCommand.TheVariants.{Run, ListRecords, Extract, Erase, ShowLayout}
@@ -185,3 +185,30 @@ returns-in-Salvage-clause-asked g c = arm_fails _ Salvage c.args.layout _ _ _ c.
 pub returns-in-Rescue-clause-asked : goal.returns-in-Rescue-clause-asked
 returns-in-Rescue-clause-asked g c = arm_fails _ (Rescue c.in-Rescue.at c.in-Rescue.name) c.args.layout _ _ _
     c.in-Rescue.is tt
+
+pub returns-in-Run-clause-unread : goal.returns-in-Run-clause-unread
+returns-in-Run-clause-unread g c = c.run_script.ensures.unread
+
+pub returns-in-ListRecords-clause-unread : goal.returns-in-ListRecords-clause-unread
+returns-in-ListRecords-clause-unread g c = inl (c.list.ensures.same, c.list.ensures.unwritten)
+
+pub returns-in-Extract-clause-unread : goal.returns-in-Extract-clause-unread
+returns-in-Extract-clause-unread g c = inl (c.extract.ensures.same, c.extract.ensures.unwritten)
+
+pub returns-in-Erase-clause-unread : goal.returns-in-Erase-clause-unread
+returns-in-Erase-clause-unread g c = c.erase.ensures.unread
+
+pub returns-in-ShowLayout-clause-unread : goal.returns-in-ShowLayout-clause-unread
+returns-in-ShowLayout-clause-unread g c = inl (refl, refl)
+
+pub returns-in-Blank-clause-unread : goal.returns-in-Blank-clause-unread
+returns-in-Blank-clause-unread g c = inr c.blank.ensures.unread
+
+pub returns-in-Make-clause-unread : goal.returns-in-Make-clause-unread
+returns-in-Make-clause-unread g c = inr c.make.ensures.unread
+
+pub returns-in-Salvage-clause-unread : goal.returns-in-Salvage-clause-unread
+returns-in-Salvage-clause-unread g c = inl (c.salvage.ensures.same, c.salvage.ensures.unwritten)
+
+pub returns-in-Rescue-clause-unread : goal.returns-in-Rescue-clause-unread
+returns-in-Rescue-clause-unread g c = inl (c.rescue.ensures.same, c.rescue.ensures.unwritten)

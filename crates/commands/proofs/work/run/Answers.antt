@@ -32,3 +32,6 @@ returns-clause-runs g c =
           answers;
       last = last_line_put _ _ _ _ _ plan _ c.do_work-end.ensures.put c.finish.ensures;
     }
+
+pub returns-clause-unread : goal.returns-clause-unread
+returns-clause-unread g c = c.do_work-end.ensures.unread
