@@ -19,3 +19,4 @@ pub mod RingTexts
 pub mod MoveReads
 pub mod Due
 pub mod ImageFaults
+pub mod Taking

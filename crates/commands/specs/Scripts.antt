@@ -17,6 +17,7 @@ use Rattle.command_line.specs.Words.{plan_for, CanShareIn}
 use Rattle.command_line.specs.Ended.{WorkDone}
 use Rattle.commands.specs.Asked.{FailsAt}
 use Rattle.commands.specs.Due.{PutsBefore}
+use Rattle.commands.specs.Taking.{CommandTakes}
 use Rattle.commands.specs.declared.scripts.Session.{Session}
 use Rattle.commands.specs.declared.scripts.Session.TheVariants.{Ram, Shared}
 
@@ -65,3 +66,4 @@ pub record ScriptDone (plan : RamPlan) (a b : Outside) (e : End) : Type 0 where
   pub work : WorkDone (Ok (OfRam plan)) a b e
   pub asked : FailsAt a b e
   pub put : PutsBefore plan.command a.given b.given e
+  pub takes : CommandTakes plan.command plan a b e
