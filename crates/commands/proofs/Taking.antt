@@ -88,7 +88,7 @@ pub plan_takes : (r : Result Plan Stop) (plan : Plan) (a b : Outside) (e : End) 
     → PlanTakes (Ok plan) a b e → PlanTakes r a b e
 plan_takes r plan a b e is h = rw is h
 
--- ---- behind the last line
+-- ---- after the last line
 
 module _ (a m b : Outside) (status : ℕ) where
   memory_line : (plan : RamPlan) → RunTakes plan a m (Err Memory)

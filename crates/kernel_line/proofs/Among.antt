@@ -69,7 +69,7 @@ one_refused m now before read i word NoText inside is_word so_far h =
     has_word m read i word (λ w. ¬ (IsUtf8 w)) inside is_word
     (added_are now before (filter (is_of m) (take i read)) so_far) h.0 h.1
 
--- a fault among the words of a line, whatever comes behind them
+-- a fault among the words of a line, whatever comes after them
 pub before_others : (m : Module) (read others : List (List ℕ)) (fault : LineFault) → IsFaultAmong m read fault
     → IsFaultBefore m read others fault
 before_others m read others Memory h = inl h

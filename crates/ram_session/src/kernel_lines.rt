@@ -84,7 +84,8 @@ fn no_body(alloc: Global, live: &mut Live, time: Time) -> LineError
     }
 }
 
-/// A crash: a dump of the message log, made whole. A refused one is not counted, and takes no memory.
+/// A crash: a dump of the message log, made whole. A refused one is not counted; it is refused also if there is no memory
+/// for its body.
 pub fn crash(
     alloc: Global,
     live: &mut Live,

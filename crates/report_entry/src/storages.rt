@@ -36,7 +36,7 @@ fn are_of_storage(words: &[String]) -> bool
     give_sizes(words)
 }
 
-/// Puts words behind others. Takes no memory if there are none.
+/// Appends words to others. Takes no memory if there are none.
 pub fn add_each(words: &mut Vec<String>, mut more: Vec<String>) -> Result<(), AllocError>
     ensures ok { OnOk result (texts words.new.items ≡ texts words.old.items ++ texts more.items) }
     ensures some { OnErr result (0 < length (texts more.items)) }
