@@ -15,9 +15,10 @@ use Rattle.grammar_spec.specs.Fields.{Text}
 use Rattle.grammar_spec.specs.declared.line.Line.{Line}
 use Rattle.grammar_spec.specs.declared.line.Line.TheVariants.{Write, Boot, List as ListLine, Extract, Erase, KDump}
 use Rattle.grammar_spec.specs.declared.line.Line.TheVariants.{CutAfter}
-use Rattle.script_spec.specs.BlkScripts.{BlkDone, blk_line_done, line_writes, NeedsStore, TakesMemory, performs}
+use Rattle.script_spec.specs.BlkScripts.{BlkDone, blk_line_done, line_writes, NeedsStore, performs}
 use Rattle.script_spec.specs.BlkScripts.{writes_by, blk_named, blk_extract_text}
 use Rattle.blk_session.specs.Asked.{line_asks, asks_by, FailsBy, FailsAtLine}
+use Rattle.script_spec.specs.Playing.{TakesMemory}
 use Rattle.script_spec.specs.declared.Cause.{Cause}
 use Rattle.script_spec.specs.declared.Cause.TheVariants.{NoZone, NoRecord}
 use Rattle.blk_session.specs.declared.errors.LineError.{LineError}

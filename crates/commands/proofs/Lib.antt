@@ -20,3 +20,4 @@ pub mod MoveReads
 pub mod Due
 pub mod ImageFaults
 pub mod Unread
+pub mod Taking

@@ -7,5 +7,6 @@ pub mod Headline
 pub mod Due
 pub mod Asked
 pub mod Unread
+pub mod Taking
 pub mod Runs
 pub mod Scripts

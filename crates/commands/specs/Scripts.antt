@@ -19,6 +19,7 @@ use Rattle.command_line.specs.Ended.{WorkDone}
 use Rattle.commands.specs.Asked.{FailsAt}
 use Rattle.commands.specs.Unread.{UnwrittenOrRead}
 use Rattle.commands.specs.Due.{PutsBefore}
+use Rattle.commands.specs.Taking.{CommandTakes}
 use Rattle.commands.specs.declared.scripts.Session.{Session}
 use Rattle.commands.specs.declared.scripts.Session.TheVariants.{Ram, Shared}
 
@@ -69,3 +70,4 @@ pub record ScriptDone (plan : RamPlan) (a b : Outside) (before now : Device) (e 
   pub asked : FailsAt a b e
   pub unread : UnwrittenOrRead before now
   pub put : PutsBefore plan.command a.given b.given e
+  pub takes : CommandTakes plan.command plan a b e

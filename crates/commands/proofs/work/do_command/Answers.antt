@@ -8,6 +8,7 @@ use Rattle.command_line.specs.declared.words.RamCommand.TheVariants.{Blank, Make
 use Rattle.commands.proofs.WorkEnds.{arm_done, kept_same, count_same, layout_shown, blank_left}
 use Rattle.commands.proofs.Due.{arm_put, none_put}
 use Rattle.commands.proofs.ImageFaults.{arm_fails}
+use Rattle.commands.proofs.Taking.{arm_takes}
 use Rattle.commands.proofs.work.do_command.Goals as goal
 
 pub returns-in-Run-clause-work : goal.returns-in-Run-clause-work
@@ -212,3 +213,30 @@ returns-in-Salvage-clause-unread g c = inl (c.salvage.ensures.same, c.salvage.en
 
 pub returns-in-Rescue-clause-unread : goal.returns-in-Rescue-clause-unread
 returns-in-Rescue-clause-unread g c = inl (c.rescue.ensures.same, c.rescue.ensures.unwritten)
+pub returns-in-Run-clause-takes : goal.returns-in-Run-clause-takes
+returns-in-Run-clause-takes g c = arm_takes _ Run c.args.layout _ _ _ c.in-Run.is c.run_script.ensures.takes
+
+pub returns-in-ListRecords-clause-takes : goal.returns-in-ListRecords-clause-takes
+returns-in-ListRecords-clause-takes g c = arm_takes _ ListRecords c.args.layout _ _ _ c.in-ListRecords.is tt
+
+pub returns-in-Extract-clause-takes : goal.returns-in-Extract-clause-takes
+returns-in-Extract-clause-takes g c = arm_takes _ (Extract c.in-Extract.name) c.args.layout _ _ _ c.in-Extract.is tt
+
+pub returns-in-Erase-clause-takes : goal.returns-in-Erase-clause-takes
+returns-in-Erase-clause-takes g c = arm_takes _ (Erase c.in-Erase.name) c.args.layout _ _ _ c.in-Erase.is tt
+
+pub returns-in-ShowLayout-clause-takes : goal.returns-in-ShowLayout-clause-takes
+returns-in-ShowLayout-clause-takes g c = arm_takes _ ShowLayout c.args.layout _ _ _ c.in-ShowLayout.is tt
+
+pub returns-in-Blank-clause-takes : goal.returns-in-Blank-clause-takes
+returns-in-Blank-clause-takes g c = arm_takes _ Blank c.args.layout _ _ _ c.in-Blank.is tt
+
+pub returns-in-Make-clause-takes : goal.returns-in-Make-clause-takes
+returns-in-Make-clause-takes g c = arm_takes _ (Make c.in-Make.n) c.args.layout _ _ _ c.in-Make.is tt
+
+pub returns-in-Salvage-clause-takes : goal.returns-in-Salvage-clause-takes
+returns-in-Salvage-clause-takes g c = arm_takes _ Salvage c.args.layout _ _ _ c.in-Salvage.is tt
+
+pub returns-in-Rescue-clause-takes : goal.returns-in-Rescue-clause-takes
+returns-in-Rescue-clause-takes g c = arm_takes _ (Rescue c.in-Rescue.at c.in-Rescue.name) c.args.layout _ _ _
+    c.in-Rescue.is tt

@@ -7,6 +7,7 @@ use Rattle.commands.proofs.WorkEnds.{none_done, plan_done, count_same}
 use Rattle.commands.proofs.Due.{plan_put, plan_same}
 use Rattle.commands.proofs.ImageFaults.{plan_fails, none_fails}
 use Rattle.commands.proofs.Unread.{plan_unread, any_unread}
+use Rattle.commands.proofs.Taking.{plan_takes, takes_silent}
 use Rattle.commands.proofs.work.do_work.Goals as goal
 
 pub returns-in-Err-clause-work : goal.returns-in-Err-clause-work
@@ -86,3 +87,15 @@ returns-in-Ok-Share-clause-unread g c = any_unread (plan_of (texts c.args.words.
 
 pub returns-in-Err-clause-unread : goal.returns-in-Err-clause-unread
 returns-in-Err-clause-unread g c = any_unread (plan_of (texts c.args.words.now)) _ _ _ (inl (refl, refl))
+pub returns-in-Ok-Move-clause-takes : goal.returns-in-Ok-Move-clause-takes
+returns-in-Ok-Move-clause-takes g c = plan_takes (plan_of (texts c.args.words.now))
+    (OfMove (move_for c.in-Ok-Move.from c.in-Ok-Move.to)) _ _ _
+    (rw c.in-Ok-Move.field-0-is at c.in-Ok-Move.ensures.plan) tt
+
+pub returns-in-Err-clause-takes : goal.returns-in-Err-clause-takes
+returns-in-Err-clause-takes g c = takes_silent (plan_of (texts c.args.words.now)) _ _ (Err c.in-Err.stop) refl
+
+pub returns-in-Ok-Share-clause-takes : goal.returns-in-Ok-Share-clause-takes
+returns-in-Ok-Share-clause-takes g c = plan_takes (plan_of (texts c.args.words.now))
+    (OfRam (plan_for SharedRun c.in-Ok-Share.booted)) _ _ _
+    (rw c.in-Ok-Share.field-0-is at c.in-Ok-Share.ensures.plan) tt
