@@ -68,17 +68,22 @@ unheld All is holds read0 read1 read2 why seen taken same h = subst (λ (n : ℕ
 module _ (asked : Asked) (known : Known) (path : List ℕ) (holds given now : Option (List ℕ)) (read0 read2 put0 put1 : ℕ)
   where
     pub unseen : (a : Seen) (why : Failure) → IsUnlooked asked.logs read0 read2 why
-        → IsNoUnknownReport asked known path holds read0 read2 given given put0 put1 a a why
-    unseen a why h = inl (record { cause = h; unput = refl; silent = refl })
+        → IsNoUnknownReport asked known path holds read0 read2 given given put0 put0 a a why
+    unseen a why h = inl (record { cause = h; unput = refl; no_put_fault = refl; silent = refl })
 
     pub by_log : (log : HeldLog) (a : Seen) (r : Result ReportHeld Failure) → IsHeldLog asked.logs holds log
+        → read2 ≡ read0
         → MatchResult r (IsLogShown asked path log given now) (IsLogUnshown asked path log given now put0 put1)
         → MatchResult r (IsUnknownReport asked known path holds given now a a)
         (IsNoUnknownReport asked known path holds read0 read2 given now put0 put1 a a)
-    by_log log a (Ok report) is h =
+    by_log log a (Ok report) is unread h =
         inl (record { reported = record { log = log; held = is; reported = h }; silent = refl })
-    by_log log a (Err why) is h =
-        inr (inl (record { cause = record { log = log; held = is; cause = h }; silent = refl }))
+    by_log log a (Err why) is unread h =
+        inr (inl (record {
+          no_read_fault = unread;
+          cause = record { log = log; held = is; cause = h };
+          silent = refl;
+        }))
 
     pub by_others : (same : Option (List ℕ)) (read1 : ℕ) (a b : Seen) (r : Result ReportHeld Failure)
         → IsNoLog asked.logs holds → same ≡ holds → read0 ≤ read1

@@ -56,9 +56,11 @@ module _ (asked : Asked) (known : Known) (path : List ℕ) (holds same : Option 
     }
 
     -- or they failed
-    pub unended : (read0 read1 : ℕ) (why : Failure) → IsNotTold asked.format lines between now put1 put2 looked b why
+    pub unended : (read0 read1 : ℕ) (why : Failure) → read1 ≡ read0
+        → IsNotTold asked.format lines between now put1 put2 looked b why
         → IsNoSoughtReport asked known path holds read0 read1 given now put0 put2 first b why
-    unended read0 read1 why fails = inr (inl (record {
+    unended read0 read1 why unread fails = inr (inl (record {
+      no_read_fault = unread;
       told = told;
       planned = planned;
       looked = looked;

@@ -15,17 +15,18 @@ use Rattle.report_run.specs.Storages.{IsUnloggedReport, IsNoUnloggedReport}
 module _ (asked : Asked) (known : Known) (path : List ℕ) (holds given now : Option (List ℕ)) (read0 read2 put0 put1 : ℕ)
   where
     pub unread : (a : Seen) (why : Failure) → IsUnfound asked.storages holds read0 read2 why
-        → IsNoUnloggedReport asked known path holds read0 read2 given given put0 put1 a a why
-    unread a why h = inl (record { cause = h; unput = refl; silent = refl })
+        → IsNoUnloggedReport asked known path holds read0 read2 given given put0 put0 a a why
+    unread a why h = inl (record { cause = h; unput = refl; no_put_fault = refl; silent = refl })
 
     pub by_storage : (storage : HeldStorage) (a b : Seen) (r : Result ReportHeld Failure)
-        → IsLookedAt asked.storages holds (Some storage)
+        → IsLookedAt asked.storages holds (Some storage) → read2 ≡ read0
         → MatchResult r (IsStorageShown asked path storage given now a b)
         (IsStorageUnshown asked path storage given now put0 put1 a b)
         → MatchResult r (IsUnloggedReport asked known path holds given now a b)
         (IsNoUnloggedReport asked known path holds read0 read2 given now put0 put1 a b)
-    by_storage storage a b (Ok report) is h = inl (record { storage = storage; held = is; reported = h })
-    by_storage storage a b (Err why) is h = inr (inl (record { storage = storage; held = is; cause = h }))
+    by_storage storage a b (Ok report) is same h = inl (record { storage = storage; held = is; reported = h })
+    by_storage storage a b (Err why) is same h =
+        inr (inl (record { no_read_fault = same; storage = storage; held = is; cause = h }))
 
     pub by_layout : (same : Option (List ℕ)) (read1 : ℕ) (a b : Seen) (r : Result ReportHeld Failure)
         → IsLookedAt asked.storages holds None → same ≡ holds → read0 ≤ read1

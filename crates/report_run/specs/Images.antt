@@ -77,14 +77,17 @@ pub record IsSoughtReport (asked : Asked) (known : Known) (path : List ℕ) (hol
 
 -- there is no plan: nothing was given out
 pub record IsUnplanned (known : Known) (path : List ℕ) (holds : Option (List ℕ)) (read_before read_now : ℕ)
-    (given now : Option (List ℕ)) (a b : Seen) (why : Failure) : Type 0 where
+    (given now : Option (List ℕ)) (put_before put_now : ℕ) (a b : Seen) (why : Failure) : Type 0 where
   pub cause : IsNotSought known path holds read_before read_now why
   pub unput : now ≡ given
+  pub no_put_fault : put_now ≡ put_before
   pub looking : MayLook known path holds a b
 
 -- or the lines on the layout failed, behind the report
-pub record IsUnended (asked : Asked) (known : Known) (path : List ℕ) (holds given now : Option (List ℕ))
-    (put_before put_now : ℕ) (a b : Seen) (why : Failure) : Type 0 where
+pub record IsUnended (asked : Asked) (known : Known) (path : List ℕ) (holds : Option (List ℕ))
+    (read_before read_now : ℕ) (given now : Option (List ℕ)) (put_before put_now : ℕ) (a b : Seen) (why : Failure)
+    : Type 0 where
+  pub no_read_fault : read_now ≡ read_before
   pub told : HintedPlan
   pub planned : IsAskedPlan asked known path holds told
   pub looked : Seen
@@ -110,6 +113,6 @@ pub record IsUnreported (asked : Asked) (known : Known) (path : List ℕ) (holds
 abbrev pub IsNoSoughtReport : Asked → Known → List ℕ → Option (List ℕ) → ℕ → ℕ → Option (List ℕ) → Option (List ℕ)
     → ℕ → ℕ → Seen → Seen → Failure → Type 0
 IsNoSoughtReport asked known path holds read_before read_now given now put_before put_now a b why =
-    IsUnplanned known path holds read_before read_now given now a b why
-    ⊎ (IsUnended asked known path holds given now put_before put_now a b why
+    IsUnplanned known path holds read_before read_now given now put_before put_now a b why
+    ⊎ (IsUnended asked known path holds read_before read_now given now put_before put_now a b why
     ⊎ IsUnreported asked known path holds read_before read_now given now put_before put_now a b why)

@@ -29,7 +29,7 @@ AreRegionsDone asked path base holds (region ∷ regions) a b =
 -- memory ran out before, or it was not done
 abbrev pub IsNamedUndone : Asked → List ℕ → ℕ → Region → Option (List ℕ) → ℕ → ℕ → State → State → Failure → Type 0
 IsNamedUndone asked path base region holds read_before read_now a b why =
-    IsRegionUntold a b why
+    IsRegionUntold read_before read_now a b why
     ⊎ IsRegionUndone asked (region_name path base region.place) region holds read_before read_now a b why
 
 -- by the memory's count of faults before the first region and now
@@ -51,9 +51,12 @@ AreRegionsUndone asked path base holds read_first read_now (region ∷ regions) 
 -- ---- a layout that is given: the region at the place that is named; nothing goes to standard error
 
 -- memory ran out before
-pub record IsUnbegun (cause why : Failure) (given now : Option (List ℕ)) (made made_now : Folder) : Type 0 where
+pub record IsUnbegun (cause why : Failure) (read_before read_now : ℕ) (given now : Option (List ℕ))
+    (put_before put_now : ℕ) (made made_now : Folder) : Type 0 where
   pub why_is : why ≡ cause
+  pub no_read_fault : read_now ≡ read_before
   pub unput : now ≡ given
+  pub no_put_fault : put_now ≡ put_before
   pub unmade : made_now ≡ made
 
 abbrev pub IsByGiven : Option ℕ → Asked → Plan → List ℕ → ℕ → Option (List ℕ) → Option (List ℕ) → Option (List ℕ)
@@ -65,10 +68,10 @@ IsByGiven (Some place) asked plan path base holds given now made made_now =
 abbrev pub IsNotByGiven : Option ℕ → Asked → Plan → List ℕ → ℕ → Option (List ℕ) → ℕ → ℕ → Option (List ℕ)
     → Option (List ℕ) → ℕ → ℕ → Folder → Folder → Failure → Type 0
 IsNotByGiven None asked plan path base holds read_before read_now given now put_before put_now made made_now why =
-    IsUnbegun NoPlace why given now made made_now
+    IsUnbegun NoPlace why read_before read_now given now put_before put_now made made_now
 IsNotByGiven (Some place) asked plan path base holds read_before read_now given now put_before put_now made made_now
     why =
-    IsUnbegun Memory why given now made made_now
+    IsUnbegun Memory why read_before read_now given now put_before put_now made made_now
     ⊎ IsPlaceUndone asked plan (region_name path base place) place holds read_before read_now given now put_before
     put_now made made_now why
 
@@ -86,6 +89,7 @@ pub record IsUnchosen (asked : Asked) (whole : WholeMemory) (known : Known) (pat
     (holds : Option (List ℕ)) (read_before read_now : ℕ) (a b : State) (why : Failure) : Type 0 where
   pub cause : AreUnchosen whole.place asked known path whole.base holds read_before read_now a.errors b.errors why
   pub unput : b.out ≡ a.out
+  pub no_put_fault : b.out_faults ≡ a.out_faults
   pub unmade : b.files ≡ a.files
 
 pub record IsChosenUndone (asked : Asked) (whole : WholeMemory) (known : Known) (path : List ℕ)

@@ -35,14 +35,16 @@ IsUnknownReport asked known path holds given now a b report =
     IsAsLog asked path holds given now a b report ⊎ IsAsUnlogged asked known path holds given now a b report
 
 -- it could not be read: nothing was given out
-pub record IsUnseenLog (logs : Logs) (read_before read_now : ℕ) (given now : Option (List ℕ)) (a b : Seen)
-    (why : Failure) : Type 0 where
+pub record IsUnseenLog (logs : Logs) (read_before read_now : ℕ) (given now : Option (List ℕ)) (put_before put_now : ℕ)
+    (a b : Seen) (why : Failure) : Type 0 where
   pub cause : IsUnlooked logs read_before read_now why
   pub unput : now ≡ given
+  pub no_put_fault : put_now ≡ put_before
   pub silent : b ≡ a
 
-pub record IsNotAsLog (asked : Asked) (path : List ℕ) (holds given now : Option (List ℕ)) (put_before put_now : ℕ)
-    (a b : Seen) (why : Failure) : Type 0 where
+pub record IsNotAsLog (asked : Asked) (path : List ℕ) (holds : Option (List ℕ)) (read_before read_now : ℕ)
+    (given now : Option (List ℕ)) (put_before put_now : ℕ) (a b : Seen) (why : Failure) : Type 0 where
+  pub no_read_fault : read_now ≡ read_before
   pub cause : IsHeldUnreported asked path holds given now put_before put_now why
   pub silent : b ≡ a
 
@@ -57,8 +59,8 @@ pub record IsNotUnlogged (asked : Asked) (known : Known) (path : List ℕ) (hold
 abbrev pub IsNoUnknownReport : Asked → Known → List ℕ → Option (List ℕ) → ℕ → ℕ → Option (List ℕ) → Option (List ℕ)
     → ℕ → ℕ → Seen → Seen → Failure → Type 0
 IsNoUnknownReport asked known path holds read_before read_now given now put_before put_now a b why =
-    IsUnseenLog asked.logs read_before read_now given now a b why
-    ⊎ (IsNotAsLog asked path holds given now put_before put_now a b why
+    IsUnseenLog asked.logs read_before read_now given now put_before put_now a b why
+    ⊎ (IsNotAsLog asked path holds read_before read_now given now put_before put_now a b why
     ⊎ IsNotUnlogged asked known path holds read_before read_now given now put_before put_now a b why)
 
 -- ---- an image whose layout is not given: a packed record, by its name, or what its bytes show

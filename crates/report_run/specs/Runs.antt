@@ -1,6 +1,6 @@
 -- The run over files, one after another
 use Rattle.std.specs.Prelude.{◌≡◌, ◌⊎◌, ◌≤◌, ℕ, nat_lt, Bool, true, false, not, ◌&&◌, ◌||◌, if◌then◌else◌, List}
-use Rattle.std.specs.Prelude.{length, Option, Some, None, ◌+◌, [], ◌∷◌, string_bytes}
+use Rattle.std.specs.Prelude.{Option, Some, None, ◌+◌, [], ◌∷◌, string_bytes}
 use Rattle.std.specs.declared.string.String.{String}
 use Rattle.std.specs.declared.alloc.Global.{Global}
 use Rattle.outside.specs.Outside.{Rose}
