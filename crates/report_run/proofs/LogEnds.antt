@@ -1,6 +1,6 @@
 -- An image that may be a text log: what a look at it tells, and how its report ends. For `held_log` and
 -- `unknown_report`.
-use Rattle.std.proofs.Common.{◌≡◌, ◌≤◌, ◌∙◌, ℕ, Bool, true, false, List, Option, Some, None, take, refl, sym, subst}
+use Rattle.std.proofs.Common.{◌≡◌, ◌∙◌, ℕ, Bool, true, false, List, Option, Some, None, take, refl, sym, subst}
 use Rattle.std.proofs.Common.{inl, inr, drop, length, ◌-◌, arith, ap, nat_lt}
 use Rattle.std.proofs.lemmas.List.{take_all, length-drop}
 use Rattle.std.specs.Prelude.{Result, Ok, Err, MatchResult, IfSome, IsTrue, ◌↔◌}
@@ -86,21 +86,20 @@ module _ (asked : Asked) (known : Known) (path : List ℕ) (holds given now : Op
         }))
 
     pub by_others : (same : Option (List ℕ)) (read1 : ℕ) (a b : Seen) (r : Result ReportHeld Failure)
-        → IsNoLog asked.logs holds → same ≡ holds → read0 ≤ read1
+        → IsNoLog asked.logs holds → same ≡ holds → read1 ≡ read0
         → MatchResult r (IsUnloggedReport asked known path same given now a b)
         (IsNoUnloggedReport asked known path same read1 read2 given now put0 put1 a b)
         → MatchResult r (IsUnknownReport asked known path holds given now a b)
         (IsNoUnknownReport asked known path holds read0 read2 given now put0 put1 a b)
-    by_others same read1 a b (Ok report) unlogged e later h =
+    by_others same read1 a b (Ok report) unlogged e unread h =
         inr (record {
           no_log = unlogged;
           reported = subst (λ (o : Option (List ℕ)). IsUnloggedReport asked known path o given now a b report) e h;
         })
-    by_others same read1 a b (Err why) unlogged e later h =
+    by_others same read1 a b (Err why) unlogged e unread h =
         inr (inr (record {
           no_log = unlogged;
-          read_between = read1;
-          later = later;
-          cause = subst (λ (o : Option (List ℕ)).
-              IsNoUnloggedReport asked known path o read1 read2 given now put0 put1 a b why) e h;
+          cause = subst (λ (n : ℕ). IsNoUnloggedReport asked known path holds n read2 given now put0 put1 a b why) unread
+              (subst (λ (o : Option (List ℕ)).
+              IsNoUnloggedReport asked known path o read1 read2 given now put0 put1 a b why) e h);
         }))

@@ -1,5 +1,5 @@
 -- An image that may be a storage: how its report ends. For `unlogged_report`.
-use Rattle.std.proofs.Common.{◌≡◌, ◌≤◌, ℕ, List, Option, Some, None, refl, subst, inl, inr}
+use Rattle.std.proofs.Common.{◌≡◌, ℕ, List, Option, Some, None, refl, subst, inl, inr}
 use Rattle.std.specs.Prelude.{Result, Ok, Err, MatchResult}
 use Rattle.layout_spec.specs.declared.Known.{Known}
 use Rattle.region_report.specs.Reports.{ReportHeld}
@@ -29,21 +29,20 @@ module _ (asked : Asked) (known : Known) (path : List ℕ) (holds given now : Op
         inr (inl (record { no_read_fault = same; storage = storage; held = is; cause = h }))
 
     pub by_layout : (same : Option (List ℕ)) (read1 : ℕ) (a b : Seen) (r : Result ReportHeld Failure)
-        → IsLookedAt asked.storages holds None → same ≡ holds → read0 ≤ read1
+        → IsLookedAt asked.storages holds None → same ≡ holds → read1 ≡ read0
         → MatchResult r (IsSoughtReport asked known path same given now a b)
         (IsNoSoughtReport asked known path same read1 read2 given now put0 put1 a b)
         → MatchResult r (IsUnloggedReport asked known path holds given now a b)
         (IsNoUnloggedReport asked known path holds read0 read2 given now put0 put1 a b)
-    by_layout same read1 a b (Ok report) none e later h =
+    by_layout same read1 a b (Ok report) none e kept h =
         inr (record {
           no_storage = none;
           reported = subst (λ (o : Option (List ℕ)). IsSoughtReport asked known path o given now a b report) e h;
         })
-    by_layout same read1 a b (Err why) none e later h =
+    by_layout same read1 a b (Err why) none e kept h =
         inr (inr (record {
           no_storage = none;
-          read_between = read1;
-          later = later;
-          cause = subst (λ (o : Option (List ℕ)).
-              IsNoSoughtReport asked known path o read1 read2 given now put0 put1 a b why) e h;
+          cause = subst (λ (n : ℕ). IsNoSoughtReport asked known path holds n read2 given now put0 put1 a b why) kept
+              (subst (λ (o : Option (List ℕ)).
+              IsNoSoughtReport asked known path o read1 read2 given now put0 put1 a b why) e h);
         }))

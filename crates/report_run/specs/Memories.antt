@@ -1,5 +1,5 @@
 -- A whole memory: the regions in it, one after another, and why not all were reported
-use Rattle.std.specs.Prelude.{◌≡◌, ◌⊎◌, ◌≤◌, ℕ, List, [], ◌∷◌, Option, Some, None}
+use Rattle.std.specs.Prelude.{◌≡◌, ◌⊎◌, ℕ, List, [], ◌∷◌, Option, Some, None}
 use Rattle.layout_spec.specs.declared.Known.{Known}
 use Rattle.found_regions.specs.declared.region.Region.{Region}
 use Rattle.report_tool.specs.declared.plan.Plan.{Plan}
@@ -32,21 +32,14 @@ IsNamedUndone asked path base region holds read_before read_now a b why =
     IsRegionUntold read_before read_now a b why
     ⊎ IsRegionUndone asked (region_name path base region.place) region holds read_before read_now a b why
 
--- by the memory's count of faults before the first region and now
-pub record IsRegionFailed (asked : Asked) (path : List ℕ) (base : ℕ) (region : Region) (holds : Option (List ℕ))
-    (read_first read_now : ℕ) (a b : State) (why : Failure) : Type 0 where
-  pub read_before : ℕ
-  pub later : read_first ≤ read_before
-  pub undone : IsNamedUndone asked path base region holds read_before read_now a b why
-
--- the first that fails ends it
+-- the first that fails ends it, and no read failed before
 unfoldable pub AreRegionsUndone : Asked → List ℕ → ℕ → Option (List ℕ) → ℕ → ℕ → List Region → State → State → Failure
     → Type 0
-AreRegionsUndone asked path base holds read_first read_now [] a b why = ⊥
-AreRegionsUndone asked path base holds read_first read_now (region ∷ regions) a b why =
-    IsRegionFailed asked path base region holds read_first read_now a b why
+AreRegionsUndone asked path base holds read_before read_now [] a b why = ⊥
+AreRegionsUndone asked path base holds read_before read_now (region ∷ regions) a b why =
+    IsNamedUndone asked path base region holds read_before read_now a b why
     ⊎ ((m : State) × IsNamedDone asked path base region holds a m
-    × AreRegionsUndone asked path base holds read_first read_now regions m b why)
+    × AreRegionsUndone asked path base holds read_before read_now regions m b why)
 
 -- ---- a layout that is given: the region at the place that is named; nothing goes to standard error
 
@@ -97,9 +90,7 @@ pub record IsChosenUndone (asked : Asked) (whole : WholeMemory) (known : Known) 
   pub regions : List Region
   pub between : Seen
   pub chosen : AreChosen whole.place asked known path whole.base holds a.errors between regions
-  pub read_between : ℕ
-  pub later : read_before ≤ read_between
-  pub undone : AreRegionsUndone asked path whole.base holds read_between read_now regions
+  pub undone : AreRegionsUndone asked path whole.base holds read_before read_now regions
       (record a { errors = between }) b why
 
 abbrev pub IsNotBySearch : Asked → WholeMemory → Known → List ℕ → Option (List ℕ) → ℕ → ℕ → State → State → Failure

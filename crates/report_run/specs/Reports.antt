@@ -1,5 +1,5 @@
 -- The report of any image, and why there is none
-use Rattle.std.specs.Prelude.{◌≡◌, ◌⊎◌, ◌≤◌, ℕ, Bool, true, false, List, Option}
+use Rattle.std.specs.Prelude.{◌≡◌, ◌⊎◌, ℕ, Bool, true, false, List, Option}
 use Rattle.layout_spec.specs.declared.Known.{Known}
 use Rattle.region_report.specs.Reports.{ReportHeld}
 use Rattle.report_tool.specs.declared.plan.Plan.{Plan}
@@ -52,9 +52,7 @@ pub record IsNotUnlogged (asked : Asked) (known : Known) (path : List ℕ) (hold
     (read_before read_now : ℕ) (given now : Option (List ℕ)) (put_before put_now : ℕ) (a b : Seen) (why : Failure)
     : Type 0 where
   pub no_log : IsNoLog asked.logs holds
-  pub read_between : ℕ
-  pub later : read_before ≤ read_between
-  pub cause : IsNoUnloggedReport asked known path holds read_between read_now given now put_before put_now a b why
+  pub cause : IsNoUnloggedReport asked known path holds read_before read_now given now put_before put_now a b why
 
 abbrev pub IsNoUnknownReport : Asked → Known → List ℕ → Option (List ℕ) → ℕ → ℕ → Option (List ℕ) → Option (List ℕ)
     → ℕ → ℕ → Seen → Seen → Failure → Type 0

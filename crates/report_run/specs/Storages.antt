@@ -1,5 +1,5 @@
 -- An image that is a storage of the kernel's pstore_zone, or one whose layout is looked for
-use Rattle.std.specs.Prelude.{◌≡◌, ◌⊎◌, ◌≤◌, ℕ, List, [], Option, Some, None}
+use Rattle.std.specs.Prelude.{◌≡◌, ◌⊎◌, ℕ, List, [], Option, Some, None}
 use Rattle.command_spec.specs.declared.Stop.{Stop}
 use Rattle.storage_words.specs.declared.Storages.{Storages}
 use Rattle.storage_spec.specs.Told.{storage_lines}
@@ -108,9 +108,7 @@ pub record IsNotAsLaid (asked : Asked) (known : Known) (path : List ℕ) (holds 
     (read_before read_now : ℕ) (given now : Option (List ℕ)) (put_before put_now : ℕ) (a b : Seen) (why : Failure)
     : Type 0 where
   pub no_storage : IsLookedAt asked.storages holds None
-  pub read_between : ℕ
-  pub later : read_before ≤ read_between
-  pub cause : IsNoSoughtReport asked known path holds read_between read_now given now put_before put_now a b why
+  pub cause : IsNoSoughtReport asked known path holds read_before read_now given now put_before put_now a b why
 
 abbrev pub IsNoUnloggedReport : Asked → Known → List ℕ → Option (List ℕ) → ℕ → ℕ → Option (List ℕ) → Option (List ℕ)
     → ℕ → ℕ → Seen → Seen → Failure → Type 0

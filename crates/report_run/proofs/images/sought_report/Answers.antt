@@ -21,7 +21,7 @@ returns-in_err-report-clause-reported g c =
     (seen (g.E.Sink.given c.sought_plan.new.messages.errors) (g.E.Sink.faults c.sought_plan.new.messages.errors)
     c.sought_plan.new.messages.is_lost)
     c.in_ok-told.ensures.looked c.in_ok-told.ensures.same _ _ _ _ _ (g.M.Load.faults c.sought_plan.new.image) _ _
-    c.in_ok-told.ensures.later c.in_err-report.ensures.reported in
+    c.in_ok-told.ensures.no_fault c.in_err-report.ensures.reported in
     let p = err_from_is_err_and c.from_residual-in_err-report.result
     c.from_residual-in_err-report.ensures.1 in
     rw (p.1, p.2) h
