@@ -26,7 +26,7 @@ wanted (Some whole) layouts = Whole
 wanted None (Given plan) = Front plan.mem
 wanted None (Sought known) = Front most_storage
 
--- the system did not open it, or memory ran out
+-- `Unopened` was answered, or memory ran out
 abbrev pub IsUnopened : ℕ → ℕ → Failure → Type 0
 IsUnopened before now (Unopened why) = Rose before now
 IsUnopened before now Memory = now ≡ before

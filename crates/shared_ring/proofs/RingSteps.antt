@@ -1,7 +1,7 @@
 -- A reservation and a step of a shared zone are the definitions'
 use Rattle.std.proofs.Common.{◌≡◌, ◌≢◌, ℕ, suc, ◌+◌, ◌%◌, ◌<◌, min, Bool, true, false, cond, ◌==◌, List, [], ◌∷◌, ◌++◌}
 use Rattle.std.proofs.Common.{length, map, take, drop, set, refl, sym, ap, ap₂, ◌∙◌, subst, arith, Some, None, Option}
-use Rattle.std.proofs.Common.{Ok, Err, inl, inr, w32, eq-eqb, append-nil, length-append, length-set}
+use Rattle.std.proofs.Common.{Ok, Err, inl, inr, eq-eqb, append-nil, length-append, length-set}
 use Rattle.std.proofs.lemmas.Bool.{cases_order, lt-ltb, ltb-true}
 use Rattle.std.proofs.lemmas.List.{map-append, take-map, drop-map}
 use Rattle.std.proofs.lemmas.Option.{slice_get_within}
