@@ -91,15 +91,15 @@ module _ (asked : Asked) (known : Known) (path : List ℕ) (holds given now : Op
         (IsNoUnloggedReport asked known path same read1 read2 given now put0 put1 a b)
         → MatchResult r (IsUnknownReport asked known path holds given now a b)
         (IsNoUnknownReport asked known path holds read0 read2 given now put0 put1 a b)
-    by_others same read1 a b (Ok report) unlogged e unread h =
+    by_others same read1 a b (Ok report) unlogged e kept h =
         inr (record {
           no_log = unlogged;
           reported = subst (λ (o : Option (List ℕ)). IsUnloggedReport asked known path o given now a b report) e h;
         })
-    by_others same read1 a b (Err why) unlogged e unread h =
+    by_others same read1 a b (Err why) unlogged e kept h =
         inr (inr (record {
           no_log = unlogged;
-          cause = subst (λ (n : ℕ). IsNoUnloggedReport asked known path holds n read2 given now put0 put1 a b why) unread
+          cause = subst (λ (n : ℕ). IsNoUnloggedReport asked known path holds n read2 given now put0 put1 a b why) kept
               (subst (λ (o : Option (List ℕ)).
               IsNoUnloggedReport asked known path o read1 read2 given now put0 put1 a b why) e h);
         }))

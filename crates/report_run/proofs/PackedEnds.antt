@@ -31,7 +31,8 @@ held holds bytes slice text fault l read e is log = record {
 module _ (asked : Asked) (path : List ℕ) (holds given now : Option (List ℕ)) (read0 read1 put0 put1 : ℕ) (a b : Seen)
     (packed : PackedLog) (is : IsPackedLog holds packed) (told : IsPartTold path packed.fault a b) where
   pub by_text : (r : Result ReportHeld Failure) → read1 ≡ read0
-      → MatchResult r (IsLogShown asked path packed.log given now) (IsLogUnshown asked path packed.log given now put0 put1)
+      → MatchResult r (IsLogShown asked path packed.log given now)
+      (IsLogUnshown asked path packed.log given now put0 put1)
       → MatchResult r (IsPackedReport asked path holds given now a b)
       (IsNoPackedReport asked path holds read0 read1 given now put0 put1 a b)
   by_text (Ok report) unread h = record { packed = packed; is_log = is; told = told; reported = h }

@@ -1,6 +1,6 @@
 -- Which regions of a whole memory are reported, and why none is
-use Rattle.std.specs.Prelude.{◌≡◌, ◌⊎◌, ⊤, ℕ, ◌<◌, nat_lt, Bool, true, false, ◌||◌, ◌&&◌, List, [], ◌∷◌, length, Option, Some, None}
-use Rattle.std.specs.Prelude.{IfSome, string_bytes}
+use Rattle.std.specs.Prelude.{◌≡◌, ◌⊎◌, ⊤, ℕ, ◌<◌, nat_lt, Bool, true, false, ◌||◌, ◌&&◌, List, [], ◌∷◌, length}
+use Rattle.std.specs.Prelude.{Option, Some, None, IfSome, string_bytes}
 use Rattle.outside.specs.Outside.{Rose}
 use Rattle.memory_spec.specs.Pages.{marked}
 use Rattle.layout_spec.specs.declared.Known.{Known}

@@ -101,5 +101,5 @@ abbrev pub IsNoReport : Layouts → Asked → List ℕ → Option (List ℕ) →
 IsNoReport (Given plan) asked path holds read_before read_now given now put_before put_now a b why =
     IsNoGivenReport asked plan path holds read_before read_now given now put_before put_now a b why
 IsNoReport (Sought known) asked path holds read_before read_now given now put_before put_now a b why =
-    IsNoUnlaidReport (is_packed asked.logs path) asked known path holds read_before read_now given now put_before put_now
-    a b why
+    IsNoUnlaidReport (is_packed asked.logs path) asked known path holds read_before read_now given now put_before
+    put_now a b why
