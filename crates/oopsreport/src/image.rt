@@ -1,5 +1,5 @@
 // Images as the system has them: a file, or what comes one byte after the other.
-ghost use Rattle.std.specs.Prelude.{◌≡◌, ◌+◌, length, None};
+ghost use Rattle.std.specs.Prelude.{None};
 
 use crate::unpacking::{is_packed, unpacked};
 use anyhow::{Result, bail};
