@@ -67,7 +67,7 @@ def _told(path, line):
 def row(image, words=""):
     """The row of an image: a path, its bytes, or both as (path, bytes). It raises nothing.
 
-    Words are parameters, as oopsbox.report has them. Of a file the first 128 MiB are read: no storage has more.
+    Words are parameters, as oopsbox.report has them. It reads the first 128 MiB of a file: no storage is longer.
     """
     path, content = image if isinstance(image, tuple) else (image, None)
     if content is None and not isinstance(path, (str, os.PathLike)):
