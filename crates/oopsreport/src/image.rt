@@ -103,19 +103,16 @@ fn read_on<F: Read>(
 ) -> io::Result<()> {
     let mut piece = vec![in alloc; 0u8; PIECE]?;
     for _ in 0..u64::MAX {
-        let want = most.saturating_sub(front.len()).min(PIECE);
-        let Some(into) = piece.get_mut(..want) else {
-            break;
-        };
-        let count = match reader.read(into) {
-            Ok(count) => count,
+        let want = most.saturating_sub(front.len()).min(piece.len());
+        let count = match reader.read(&mut piece[..want]) {
+            Ok(count) => count.min(want),
             Err(e) if e.kind() == ErrorKind::Interrupted => continue,
             Err(e) => return Err(e),
         };
         if count == 0 {
             break;
         }
-        if let Some(more) = piece.get(..count.min(want)) {
+        if let Some(more) = piece.get(..count) {
             front.extend_from_slice(more)?;
         }
     }
