@@ -103,19 +103,16 @@ fn read_on<F: Read>(
 ) -> io::Result<()> {
     let mut piece = vec![in alloc; 0u8; PIECE]?;
     for _ in 0..u64::MAX {
-        let want = most.saturating_sub(front.len()).min(PIECE);
-        let Some(into) = piece.get_mut(..want) else {
-            break;
-        };
-        let count = match reader.read(into) {
-            Ok(count) => count,
+        let want = most.saturating_sub(front.len()).min(piece.len());
+        let count = match reader.read(&mut piece[..want]) {
+            Ok(count) => count.min(want),
             Err(e) if e.kind() == ErrorKind::Interrupted => continue,
             Err(e) => return Err(e),
         };
         if count == 0 {
             break;
         }
-        if let Some(more) = piece.get(..count.min(want)) {
+        if let Some(more) = piece.get(..count) {
             front.extend_from_slice(more)?;
         }
     }
@@ -153,11 +150,13 @@ fn open_file<R: Runtime>(
 ) -> Result<Kind<R>> {
     let mut reader = fs::File::open(rt, path)?;
     let mut file = FileLoad::new(rt, alloc, path)?;
-    match is_packed(&mut file) {
-        Ok(false) if len > 0 => Ok(Kind::File(file)),
-        Ok(_) => Ok(Kind::Front(front_of(alloc, &mut reader, most as usize)?)),
-        Err(Failed) => bail!("it could not be read"),
+    let Ok(is_packed) = is_packed(&mut file) else {
+        bail!("it could not be read");
+    };
+    if is_packed || len == 0 {
+        return Ok(Kind::Front(front_of(alloc, &mut reader, most as usize)?));
     }
+    Ok(Kind::File(file))
 }
 
 // Reads a folder's names. One that is no text does not matter.
@@ -198,11 +197,13 @@ fn open<R: Runtime, S: Read>(
 fn open_copy<R: Runtime>(rt: &R, alloc: Global, path: &str) -> Result<Kind<R>> {
     let _reader = fs::File::open(rt, path)?;
     let mut file = FileLoad::new(rt, alloc, path)?;
-    match is_packed(&mut file) {
-        Ok(true) => bail!("it is compressed: unpack it first"),
-        Ok(false) => Ok(Kind::File(file)),
-        Err(Failed) => bail!("it could not be read"),
+    let Ok(is_packed) = is_packed(&mut file) else {
+        bail!("it could not be read");
+    };
+    if is_packed {
+        bail!("it is compressed: unpack it first");
     }
+    Ok(Kind::File(file))
 }
 
 // The device of a memory. It may not tell its end, as `/dev/mem`.
