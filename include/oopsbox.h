@@ -6,7 +6,8 @@
  * stores them. docs/LIBRARY.md has examples, and docs/CLAIMS.md what is proved.
  *
  * A call is undefined only if a pointer is not what it should be: the first byte of so many bytes (or so many structs)
- * that stand there for the whole call, and that nothing else reads or writes meanwhile if the call may write them. Two
+ * that stand there for the whole call. Meanwhile nothing else reads or writes what the call may write, and nothing
+ * writes what it only reads; others may read that too. If somebody may write a zone meanwhile, give the call a copy. Two
  * slices of one call do not overlap. A slice of length 0 may have any pointer, NULL too. All other arguments are
  * tested.
  *

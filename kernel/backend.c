@@ -23,6 +23,12 @@
 /* From here on the kernel has pmsg before the ftrace zones. 6.1 has not, and 6.12 has. */
 #define PMSG_FIRST (LINUX_VERSION_CODE >= KERNEL_VERSION(6, 2, 0))
 
+/* From here on pstore frees a record's bytes by kvfree, and before by kfree. */
+#define FREES_ANY_BYTES (LINUX_VERSION_CODE >= KERNEL_VERSION(6, 6, 0))
+
+/* The most bytes of a dump's time line. */
+#define TIME_LINE 36
+
 static struct region region;
 static struct oops_zone *zones;	/* the dumps, console, pmsg, the ftrace zones */
 static struct oops_zone *console, *pmsg, *ftrace;
@@ -54,6 +60,14 @@ static int backend_open(struct pstore_info *psi)
 	return 0;
 }
 
+/* A record of this kind that has no time and is not compressed. A dump that was passed over may have left both. */
+static void undated(struct pstore_record *record, enum pstore_type_id type)
+{
+	record->type = type;
+	record->time = (struct timespec64){};
+	record->compressed = false;
+}
+
 /* The length of the dump's time line, 0 if it has none. */
 static int time_line(const struct oops_zone *z, struct pstore_record *record)
 {
@@ -82,14 +96,19 @@ static int notice(u32 parity, u32 corrected, u32 bad, char *text, size_t room)
 			corrected, bad);
 }
 
-/* A content of so many bytes, and after it the notice on its parity. */
+/* A content of so many bytes, and after it the notice on its parity. A record without memory is passed over. */
 static ssize_t content(struct pstore_record *record, const u8 *bytes, size_t len, u32 parity,
 		       u32 corrected, u32 bad)
 {
-	record->ecc_notice_size = notice(parity, corrected, bad, NULL, 0);
-	record->buf = kvzalloc(len + record->ecc_notice_size + 1, GFP_KERNEL);
-	if (!record->buf)
-		return -ENOMEM;
+	size_t all = len + notice(parity, corrected, bad, NULL, 0) + 1;
+
+	record->ecc_notice_size = all - len - 1;
+	record->buf = FREES_ANY_BYTES ? kvzalloc(all, GFP_KERNEL) :
+					kzalloc(all, GFP_KERNEL | __GFP_NOWARN);
+	if (!record->buf) {
+		pr_warn("no memory to show a record of %zu bytes\n", len);
+		return 0;
+	}
 	memcpy(record->buf, bytes, len);
 	notice(parity, corrected, bad, record->buf + len, record->ecc_notice_size + 1);
 	return len;
@@ -102,7 +121,10 @@ static ssize_t zone_content(struct pstore_record *record, const struct oops_zone
 		       z->bad);
 }
 
-/* A dump is read where it lies. One without a time line is erased, as ramoops does. */
+/*
+ * A dump is read where it lies. One without a time line is erased, as ramoops does, but not if another processor wrote a
+ * dump there meanwhile.
+ */
 static ssize_t read_dump(struct pstore_record *record, struct oops_zone *z)
 {
 	int head;
@@ -111,11 +133,20 @@ static ssize_t read_dump(struct pstore_record *record, struct oops_zone *z)
 		return 0;
 	head = time_line(z, record);
 	if (!head)
-		zone_erase(z, erase_lane);
+		zone_erase_read(z, erase_lane);
 	if (!head || z->answer.log == head)
 		return 0;
 	record->type = PSTORE_TYPE_DMESG;
 	return zone_content(record, z, head);
+}
+
+/* A console or pmsg: its log as it was at the boot. */
+static ssize_t read_ring(struct pstore_record *record, const struct oops_zone *z)
+{
+	if (!z->log)
+		return 0;
+	undated(record, z == console ? PSTORE_TYPE_CONSOLE : PSTORE_TYPE_PMSG);
+	return zone_content(record, z, 0);
 }
 
 struct entry {
@@ -173,7 +204,7 @@ static ssize_t read_ftrace(struct pstore_record *record)
 	merged = kvcalloc(all, sizeof(*merged), GFP_KERNEL);
 	if (!merged)
 		return -ENOMEM;
-	record->type = PSTORE_TYPE_FTRACE;
+	undated(record, PSTORE_TYPE_FTRACE);
 	record->id = 0;
 	len = merge(merged, all) ?:
 	      content(record, (u8 *)merged, all * sizeof(*merged), 0, 0, 0);
@@ -183,19 +214,15 @@ static ssize_t read_ftrace(struct pstore_record *record)
 
 static ssize_t backend_read(struct pstore_record *record)
 {
+	unsigned int rings = dumps + !!console + !!pmsg;
 	ssize_t len = 0;
 
-	record->time = (struct timespec64){};
-	record->compressed = false;
-	while (!len && to_read < dumps)
-		len = read_dump(record, &zones[to_read++]);
-	for (; !len && to_read < dumps + !!console + !!pmsg; to_read++)
-		if (zones[to_read].log) {
-			record->type = &zones[to_read] == console ? PSTORE_TYPE_CONSOLE :
-								    PSTORE_TYPE_PMSG;
-			len = zone_content(record, &zones[to_read], 0);
-		}
-	if (!len && to_read == dumps + !!console + !!pmsg) {
+	while (!len && to_read < rings) {
+		struct oops_zone *z = &zones[to_read++];
+
+		len = z->place.kind == OOPSBOX_DUMP ? read_dump(record, z) : read_ring(record, z);
+	}
+	if (!len && to_read == rings) {
 		to_read++;
 		len = read_ftrace(record);
 	}
@@ -206,11 +233,11 @@ static ssize_t backend_read(struct pstore_record *record)
 
 /*
  * Of a dump only the first part, which has the newest lines: as ramoops. A zone that a stopped
- * processor was erasing is passed over.
+ * processor was erasing is passed over, and so is one that refuses the dump.
  */
 static int write_dump(struct pstore_record *record)
 {
-	char line[37];
+	char line[TIME_LINE + 1];
 	unsigned int tries;
 	size_t len;
 	int err = -ENOSPC;
@@ -219,26 +246,32 @@ static int write_dump(struct pstore_record *record)
 		return -ENOSPC;
 	len = scnprintf(line, sizeof(line), "====%lld.%06lu-%c\n", (s64)record->time.tv_sec,
 			record->time.tv_nsec / 1000, record->compressed ? 'C' : 'D');
-	for (tries = 0; tries < dumps; tries++) {
+	for (tries = 0; err && tries < dumps; tries++) {
 		record->id = next_dump;
 		err = zone_dump(&zones[next_dump], line, len, record->buf, record->size);
 		next_dump = (next_dump + 1) % dumps;
-		if (err != -EBUSY)
-			break;
 	}
 	return err;
 }
 
-static int backend_write(struct pstore_record *record)
+/* The tracer has interrupts off, so it stays on its processor. */
+static int write_ftrace(struct pstore_record *record)
 {
 	unsigned int number = is_per_cpu ? smp_processor_id() : 0;
 
+	if (number >= ftraces)
+		return -EINVAL;
+	return zone_append(&ftrace[number], record->buf, record->size);
+}
+
+static int backend_write(struct pstore_record *record)
+{
 	if (record->type == PSTORE_TYPE_DMESG)
 		return write_dump(record);
 	if (record->type == PSTORE_TYPE_CONSOLE && console)
 		return zone_append(console, record->buf, record->size);
-	if (record->type == PSTORE_TYPE_FTRACE && number < ftraces)
-		return zone_append(&ftrace[number], record->buf, record->size);
+	if (record->type == PSTORE_TYPE_FTRACE)
+		return write_ftrace(record);
 	return -EINVAL;
 }
 
@@ -249,7 +282,7 @@ int pmsg_append(const char __user *bytes, size_t length)
 
 	if (copy_from_user(pmsg_copy, bytes + length - len, len))
 		return -EFAULT;
-	return zone_append(pmsg, pmsg_copy, len);
+	return zone_append_long(pmsg, pmsg_copy, len);
 }
 
 static int backend_write_user(struct pstore_record *record, const char __user *bytes)
@@ -295,68 +328,97 @@ static struct pstore_info backend = {
 
 /* ---- the zones ---- */
 
-/* The zones of a kind in the layout: how many, and each of them from `to` on, if that is given. */
-static int find_kind(const struct oopsbox_params *params, u32 kind, struct oops_zone *to)
+static const u32 kinds[] = { OOPSBOX_DUMP, OOPSBOX_CONSOLE, OOPSBOX_PMSG, OOPSBOX_FTRACE };
+
+/* How many zones of a kind the layout has. */
+static int count_kind(const struct oopsbox_params *params, u32 kind)
 {
 	struct oops_zone one;
-	int found, answer;
+	int found, answer = 0;
 
-	for (found = 0;; found++) {
-		answer = zone_find(to ? to + found : &one, params, kind, found);
-		if (answer)
-			return answer < 0 ? answer : found;
-	}
+	for (found = 0; !answer; found++)
+		answer = zone_find(&one, params, kind, found);
+	return answer < 0 ? answer : found - 1;
 }
 
-static void place_zones(void)
+/* How many of each kind, and how many in all. */
+static int count_zones(const struct oopsbox_params *params, int *found)
 {
-	unsigned int i;
+	int all = 0;
+	size_t i;
 
-	for (i = 0; i < count; i++) {
-		zone_place(&zones[i], &region, zones[i].place.at);
-		if (zones[i].place.at % 4)
-			pr_warn_once("a zone begins at 0x%x: its words may take two stores\n",
-				     zones[i].place.at);
-	}
-}
-
-static int find_zones(const struct ramoops_platform_data *data)
-{
-	static const u32 kinds[] = { OOPSBOX_DUMP, OOPSBOX_CONSOLE, OOPSBOX_PMSG, OOPSBOX_FTRACE };
-	u64 parity = data->ecc_info.ecc_size;
-	struct oopsbox_params params =
-		OOPSBOX_PARAMS(data->mem_size, data->record_size, data->console_size,
-			       data->ftrace_size, data->pmsg_size, parity);
-	struct oops_zone *first[ARRAY_SIZE(kinds)], *z;
-	int found[ARRAY_SIZE(kinds)];
-	size_t i, all = 0;
-
-	params.cpus = is_per_cpu && data->ftrace_size ? nr_cpu_ids : 1;
-	params.ftrace_sig = LINUX_VERSION_CODE;
-	params.order = PMSG_FIRST;
 	for (i = 0; i < ARRAY_SIZE(kinds); i++) {
-		found[i] = find_kind(&params, kinds[i], NULL);
+		found[i] = count_kind(params, kinds[i]);
 		if (found[i] < 0)
 			return found[i];
 		all += found[i];
 	}
-	if (!all)
-		return -EINVAL;
-	zones = z = kvcalloc(all, sizeof(*zones), GFP_KERNEL);
+	return all ? all : -EINVAL;
+}
+
+/* Zones of a kind, as many as there are. The place after them. */
+static struct oops_zone *find_kind(const struct oopsbox_params *params, u32 kind, int found,
+				   struct oops_zone *to)
+{
+	int i;
+
+	for (i = 0; i < found; i++)
+		zone_find(&to[i], params, kind, i);
+	return to + found;
+}
+
+static void find_zones(const struct oopsbox_params *params, const int *found)
+{
+	struct oops_zone *z = find_kind(params, OOPSBOX_DUMP, found[0], zones);
+
+	dumps = found[0];
+	console = found[1] ? z : NULL;
+	z = find_kind(params, OOPSBOX_CONSOLE, found[1], z);
+	pmsg = found[2] ? z : NULL;
+	ftrace = find_kind(params, OOPSBOX_PMSG, found[2], z);
+	ftraces = found[3];
+	find_kind(params, OOPSBOX_FTRACE, found[3], ftrace);
+}
+
+/* A header's word is one store only at a multiple of 4. Elsewhere device memory takes none at all: arm64 faults. */
+static int place_zones(void)
+{
+	phys_addr_t at;
+	unsigned int i;
+
+	for (i = 0; i < count; i++) {
+		at = region.address + zones[i].place.at;
+		zone_place(&zones[i], &region, zones[i].place.at);
+		if (at % 4 && region.is_device) {
+			pr_err("a zone begins at %pa: in device memory it must be a multiple of 4\n", &at);
+			return -EINVAL;
+		}
+		if (at % 4)
+			pr_warn_once("a zone begins at %pa: its words may take two stores\n", &at);
+	}
+	return 0;
+}
+
+static int make_zones(const struct ramoops_platform_data *data)
+{
+	u64 parity = data->ecc_info.ecc_size;
+	struct oopsbox_params params =
+		OOPSBOX_PARAMS(data->mem_size, data->record_size, data->console_size,
+			       data->ftrace_size, data->pmsg_size, parity);
+	int found[ARRAY_SIZE(kinds)], all;
+
+	params.cpus = is_per_cpu && data->ftrace_size ? nr_cpu_ids : 1;
+	params.ftrace_sig = LINUX_VERSION_CODE;
+	params.order = PMSG_FIRST;
+	all = count_zones(&params, found);
+	if (all < 0)
+		return all;
+	zones = kvcalloc(all, sizeof(*zones), GFP_KERNEL);
 	if (!zones)
 		return -ENOMEM;
 	count = all;
-	for (i = 0; i < ARRAY_SIZE(kinds); z += found[i++]) {
-		first[i] = z;
-		find_kind(&params, kinds[i], z);
-	}
-	dumps = found[0];
-	console = found[1] ? first[1] : NULL;
-	pmsg = found[2] ? first[2] : NULL;
-	ftrace = first[3];
-	ftraces = found[3];
-	place_zones();
-	return 0;
+	find_zones(&params, found);
+	return place_zones();
 }
 
 /* All memory that a write will want, before the first store. */
@@ -393,6 +455,13 @@ static int boot_zones(void)
 	return err;
 }
 
+/* Writes back what the boot erased, of a zone that is not to be used. */
+static void put_back(struct oops_zone *z)
+{
+	if (z && z->log)
+		zone_append_long(z, z->log, z->answer.log);
+}
+
 static void release(void)
 {
 	unsigned int i;
@@ -423,7 +492,8 @@ static void release(void)
 	is_open = false;
 }
 
-static int start(const struct ramoops_platform_data *data)
+/* All memory and zones, before the first store. */
+static int prepare(const struct ramoops_platform_data *data)
 {
 	int err;
 
@@ -434,17 +504,33 @@ static int start(const struct ramoops_platform_data *data)
 	if (!err)
 		err = table_make(data->ecc_info.ecc_size);
 	if (!err)
-		err = find_zones(data);
+		err = make_zones(data);
 	if (!err)
 		err = give_lanes();
-	if (!err)
-		err = boot_zones();
-	if (err)
-		return err;
+	return err;
+}
+
+/*
+ * From its registration on a dump leaves room for its time line, which would push out the dump's end. pstore is told so
+ * only then: its buffer for inflated dumps goes by bufsize, and ramoops fills all of a zone.
+ */
+static int start(const struct ramoops_platform_data *data)
+{
+	int err = boot_zones();
+
 	backend.flags = (dumps ? PSTORE_FLAGS_DMESG : 0) | (console ? PSTORE_FLAGS_CONSOLE : 0) |
 			(pmsg ? PSTORE_FLAGS_PMSG : 0) | (ftraces ? PSTORE_FLAGS_FTRACE : 0);
 	backend.max_reason = data->max_reason;
-	return pstore_register(&backend);
+	if (!err)
+		err = pstore_register(&backend);
+	if (err) {
+		put_back(console);
+		put_back(pmsg);
+		return err;
+	}
+	if (dumps)
+		backend.bufsize -= TIME_LINE;
+	return 0;
 }
 
 static void backend_close(void *unused)
@@ -462,7 +548,7 @@ static int backend_probe(struct platform_device *device)
 	if (err)
 		return err;
 	is_open = true;
-	err = start(&data);
+	err = prepare(&data) ?: start(&data);
 	if (err) {
 		release();
 		return err;
@@ -486,26 +572,28 @@ static struct platform_driver driver = {
 	.driver = {
 		.name = "ramoops",
 		.of_match_table = trees,
+		.suppress_bind_attrs = true,	/* /dev/pmsg0 may be open */
 	},
 };
 
+/* The driver first, which fails if ramoops is there: it would take the device, and erase console and pmsg. */
 static int __init oopsbox_init(void)
 {
-	int err = settings_make_device();
+	int err = platform_driver_register(&driver);
 
 	if (err)
 		return err;
-	err = platform_driver_register(&driver);
+	err = settings_make_device();
 	if (err)
-		settings_drop_device();
+		platform_driver_unregister(&driver);
 	return err;
 }
 module_init(oopsbox_init);
 
 static void __exit oopsbox_exit(void)
 {
-	platform_driver_unregister(&driver);
 	settings_drop_device();
+	platform_driver_unregister(&driver);
 }
 module_exit(oopsbox_exit);
 

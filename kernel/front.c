@@ -20,7 +20,6 @@ static void console_write(struct console *con, const char *text, unsigned int le
 static struct console own_console = {
 	.name = "oopsbox",
 	.write = console_write,
-	.flags = CON_PRINTBUFFER | CON_ENABLED | CON_ANYTIME,
 	.index = -1,
 };
 
@@ -51,6 +50,8 @@ void fronts_open(struct oops_zone *console, struct oops_zone *pmsg)
 {
 	console_zone = console;
 	if (console && !IS_ENABLED(CONFIG_PSTORE_CONSOLE)) {
+		/* each time: unregister_console clears one of them */
+		own_console.flags = CON_PRINTBUFFER | CON_ENABLED | CON_ANYTIME;
 		register_console(&own_console);
 		has_console = true;
 	}

@@ -166,5 +166,9 @@ int settings_read(struct platform_device *device, struct ramoops_platform_data *
 		pr_err("the memory's size and one of the zones' sizes must not be 0\n");
 		return -EINVAL;
 	}
-	return data->ecc_info.ecc_size < 0 ? -EINVAL : 0;
+	if (data->ecc_info.ecc_size < 0) {
+		pr_err("ecc must not be below 0\n");
+		return -EINVAL;
+	}
+	return 0;
 }

@@ -58,7 +58,7 @@ static noinline void on_stack(struct lane *lane, u8 *stack)
 		     : "+r"(tos), "+D"(lane), ASM_CALL_CONSTRAINT
 		     : [tos] "r"(tos)
 		     : "cc", "rax", "rcx", "rdx", "rsi", "r8", "r9", "r10", "memory");
-#elif defined(CONFIG_ARM64)
+#elif defined(CONFIG_ARM64) && !defined(CONFIG_CPU_BIG_ENDIAN)
 	register void *x0 asm("x0") = lane;
 
 	asm volatile("mov x19, sp\n"
@@ -70,7 +70,7 @@ static noinline void on_stack(struct lane *lane, u8 *stack)
 		     : "cc", "x1", "x2", "x3", "x4", "x5", "x6", "x7", "x8", "x9", "x10", "x11", "x12", "x13", "x14",
 		       "x15", "x16", "x17", "x19", "x30", "memory");
 #else
-#error "the calls are compiled for x86-64 and arm64"
+#error "the calls are compiled for x86-64 and for little-endian arm64"
 #endif
 }
 

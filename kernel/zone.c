@@ -7,10 +7,14 @@
 #include <linux/console.h>
 #include <linux/kernel.h>
 #include <linux/preempt.h>
+#include <linux/sched.h>
 #include <linux/slab.h>
 #include <linux/vmalloc.h>
 #include "stack.h"
 #include "zone.h"
+
+/* The most bytes of a long append that are written at once, with interrupts off. */
+#define PIECE 4096
 
 static struct oopsbox_row *table;
 static size_t rows;
@@ -22,8 +26,10 @@ int table_make(u32 parity)
 	table = kmalloc_array(OOPSBOX_TABLE, sizeof(*table), GFP_KERNEL);
 	if (!table)
 		return -ENOMEM;
-	if (oopsbox_table(parity, table, OOPSBOX_TABLE) != OOPSBOX_DONE)
+	if (oopsbox_table(parity, table, OOPSBOX_TABLE) != OOPSBOX_DONE) {
+		pr_err("ecc is at most 127 bytes of parity, not %u\n", parity);
 		return -EINVAL;
+	}
 	rows = OOPSBOX_TABLE;
 	return 0;
 }
@@ -70,6 +76,9 @@ int zone_find(struct oops_zone *z, const struct oopsbox_params *params, u32 kind
 
 	if (status == OOPSBOX_FAULT) {
 		pr_err("the parameters have no layout: fault %u\n", answer.fault);
+		if (params->cpus > 1)
+			pr_err("ftrace_size %llu is divided by %llu possible processors\n",
+			       params->ftrace, params->cpus);
 		return -EINVAL;
 	}
 	return status == OOPSBOX_DONE ? 0 : 1;
@@ -133,12 +142,46 @@ static u32 begin(struct lane *lane)
 	}
 }
 
+/* Boots the lane's zone as one of this place, and makes all stores of it. */
+static u32 boot(struct lane *lane, const struct oopsbox_zone_place *place)
+{
+	const u8 *bytes = lane->zone->bytes;
+	u32 status = oopsbox_boot_begin(place, bytes, place->size, &lane->boot);
+
+	lane->stores.is_last = 0;
+	while (status == OOPSBOX_DONE && !lane->stores.is_last) {
+		status = oopsbox_boot_next(&lane->boot, bytes, place->size, &lane->stores);
+		if (status == OOPSBOX_DONE)
+			make(lane);
+	}
+	return status;
+}
+
+/*
+ * A header that was damaged while the machine runs refuses all writes. The zone is then booted as an ftrace zone is: it
+ * is corrected, and erased only if no append can continue its log. If that does not help, it is not tried again.
+ */
+static u32 mend(struct lane *lane)
+{
+	struct oopsbox_zone_place place = lane->zone->place;
+	u32 status;
+
+	place.kind = OOPSBOX_FTRACE;
+	status = boot(lane, &place);
+	if (status == OOPSBOX_DONE)
+		status = begin(lane);
+	lane->zone->is_lost = status != OOPSBOX_DONE;
+	return status;
+}
+
 /* Begins what the zone was asked to write, and makes all its stores. */
 __visible noinline void oopsbox_turn(struct lane *lane)
 {
 	const struct oops_zone *z = lane->zone;
 	u32 status = begin(lane);
 
+	if (status == OOPSBOX_CLOSED && !z->is_lost)
+		status = mend(lane);
 	while (status == OOPSBOX_DONE) {
 		make(lane);
 		if (lane->stores.is_last)
@@ -150,6 +193,21 @@ __visible noinline void oopsbox_turn(struct lane *lane)
 	lane->status = status;
 }
 
+/* Writes into a zone that is locked. */
+static int write_locked(struct oops_zone *z, struct lane *lane, u32 kind, const u8 *line,
+			size_t line_len, const u8 *payload, size_t len)
+{
+	z->writes++;
+	lane->zone = z;
+	lane->kind = kind;
+	lane->line = line;
+	lane->line_len = line_len;
+	lane->payload = payload;
+	lane->len = len;
+	on_stack(lane, lane->stack);
+	return lane->status == OOPSBOX_DONE ? 0 : -EINVAL;
+}
+
 static int zone_write(struct oops_zone *z, struct lane *lane, u32 kind, const u8 *line,
 		      size_t line_len, const u8 *payload, size_t len)
 {
@@ -158,14 +216,7 @@ static int zone_write(struct oops_zone *z, struct lane *lane, u32 kind, const u8
 
 	if (!zone_lock(z, &flags))
 		return -EBUSY;
-	lane->zone = z;
-	lane->kind = kind;
-	lane->line = line;
-	lane->line_len = line_len;
-	lane->payload = payload;
-	lane->len = len;
-	on_stack(lane, lane->stack);
-	err = lane->status == OOPSBOX_DONE ? 0 : -EINVAL;
+	err = write_locked(z, lane, kind, line, line_len, payload, len);
 	raw_spin_unlock_irqrestore(&z->lock, flags);
 	return err;
 }
@@ -175,17 +226,62 @@ int zone_append(struct oops_zone *z, const u8 *bytes, size_t len)
 	return zone_write(z, z->lane, OOPSBOX_APPEND, NULL, 0, bytes, len);
 }
 
+/* In pieces, with interrupts on between them. An erasure can come between two. */
+int zone_append_long(struct oops_zone *z, const u8 *bytes, size_t len)
+{
+	size_t done;
+	int err = 0;
+
+	for (done = 0; !err && done < len; done += PIECE) {
+		err = zone_append(z, bytes + done, min_t(size_t, len - done, PIECE));
+		cond_resched();
+	}
+	return err;
+}
+
 int zone_dump(struct oops_zone *z, const u8 *line, size_t line_len, const u8 *bytes, size_t len)
 {
 	return zone_write(z, z->lane, OOPSBOX_WRITE_DUMP, line, line_len, bytes, len);
 }
 
-/* Forgets the zone's log, too. */
-int zone_erase(struct oops_zone *z, struct lane *lane)
+static void forget(struct oops_zone *z)
 {
 	vfree(z->log);
 	z->log = NULL;
+}
+
+/* Forgets the zone's log, too. */
+int zone_erase(struct oops_zone *z, struct lane *lane)
+{
+	forget(z);
 	return zone_write(z, lane, OOPSBOX_ERASE, NULL, 0, NULL, 0);
+}
+
+/* As zone_erase, but only if nothing was written since the zone was read. */
+int zone_erase_read(struct oops_zone *z, struct lane *lane)
+{
+	unsigned long flags;
+	int err = -EAGAIN;
+
+	forget(z);
+	if (!zone_lock(z, &flags))
+		return -EBUSY;
+	if (z->writes == z->read)
+		err = write_locked(z, lane, OOPSBOX_ERASE, NULL, 0, NULL, 0);
+	raw_spin_unlock_irqrestore(&z->lock, flags);
+	return err;
+}
+
+/* How many writes were begun. Each of them has ended. */
+static u32 writes(struct oops_zone *z)
+{
+	unsigned long flags;
+	u32 all;
+
+	raw_spin_lock_irqsave(&z->lock, flags);
+	all = z->writes;
+	raw_spin_unlock_irqrestore(&z->lock, flags);
+	return all;
 }
 
 /*
@@ -199,8 +295,8 @@ int zone_read(struct oops_zone *z)
 	u32 status;
 	u64 got = 0;
 
-	vfree(z->log);
-	z->log = NULL;
+	forget(z);
+	z->read = writes(z);
 	status = oopsbox_zone_read(place, z->bytes, place->size, table, rows, &z->answer);
 	if (status != OOPSBOX_DONE)
 		return -EINVAL;
@@ -216,27 +312,22 @@ int zone_read(struct oops_zone *z)
 		return -ENOMEM;
 	status = oopsbox_zone_log(place, z->bytes, place->size, table, rows, 0, z->log,
 				  z->answer.log, &got);
-	return status == OOPSBOX_DONE && got == z->answer.log ? 0 : -EINVAL;
+	if (status == OOPSBOX_DONE && got == z->answer.log)
+		return 0;
+	forget(z);
+	return -EINVAL;
 }
 
-/* Reads and then boots the zone: damage is corrected, and a console and pmsg are erased. */
+/* Reads and then boots the zone: damage is corrected, and a console and pmsg are erased. An error leaves no log. */
 int zone_boot(struct oops_zone *z, struct lane *lane)
 {
-	const struct oopsbox_zone_place *place = &z->place;
-	struct oopsbox_boot *boot = kmalloc(sizeof(*boot), GFP_KERNEL);
-	int err = boot ? zone_read(z) : -ENOMEM;
-	u32 status = OOPSBOX_DONE;
+	int err = zone_read(z);
 
-	if (!err) {
-		status = oopsbox_boot_begin(place, z->bytes, place->size, boot);
-		lane->zone = z;
-		lane->stores.is_last = 0;
-		while (status == OOPSBOX_DONE && !lane->stores.is_last) {
-			status = oopsbox_boot_next(boot, z->bytes, place->size, &lane->stores);
-			if (status == OOPSBOX_DONE)
-				make(lane);
-		}
-	}
-	kfree(boot);
-	return status == OOPSBOX_DONE ? err : -EINVAL;
+	if (err)
+		return err;
+	lane->zone = z;
+	if (boot(lane, &z->place) == OOPSBOX_DONE)
+		return 0;
+	forget(z);
+	return -EINVAL;
 }

@@ -13,6 +13,7 @@
  */
 struct lane {
 	struct oopsbox_flight flight;
+	struct oopsbox_boot boot;
 	struct oopsbox_stores stores;
 	u8 *stack;
 	struct oops_zone *zone;
@@ -27,6 +28,9 @@ struct oops_zone {
 	u8 *bytes;	/* as the calls read them */
 	raw_spinlock_t lock;
 	struct lane *lane;
+	u32 writes;	/* how many were begun, under the lock .. */
+	u32 read;	/* .. and how many when it was last read */
+	bool is_lost;	/* a boot did not open it for writes */
 	/* What was read, and how many bytes were corrected, and parts bad, since the region was mapped. */
 	struct oopsbox_zone_answer answer;
 	u32 corrected, bad;
@@ -45,8 +49,10 @@ size_t lane_used(const struct lane *lane);
 int zone_find(struct oops_zone *z, const struct oopsbox_params *params, u32 kind, u32 index);
 void zone_place(struct oops_zone *z, struct region *region, u32 at);
 int zone_append(struct oops_zone *z, const u8 *bytes, size_t len);
+int zone_append_long(struct oops_zone *z, const u8 *bytes, size_t len);
 int zone_dump(struct oops_zone *z, const u8 *line, size_t line_len, const u8 *bytes, size_t len);
 int zone_erase(struct oops_zone *z, struct lane *lane);
+int zone_erase_read(struct oops_zone *z, struct lane *lane);
 int zone_read(struct oops_zone *z);
 int zone_boot(struct oops_zone *z, struct lane *lane);
 

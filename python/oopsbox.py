@@ -313,14 +313,21 @@ _KEYS = {"mem_size": ("mem", 0), "record_size": ("dump", 4096), "console_size": 
 # The texts that a key takes in place of a number; the field has the text's place.
 _CHOICES = {"order": ("console,ftrace,pmsg", "console,pmsg,ftrace"), "byte_order": ("little", "big")}
 _FTRACE = 2
-_WORD, _PAYLOAD = 0, 2
+_WORD, _PAYLOAD, _BYTES = 0, 2, 3
 _ROWS = 256
 _MOST_MEMORY = 1 << 24
+
+
+def _is_number(value):
+    # ctypes would take any number, and keep its last 32 or 64 bits
+    return 0 <= value < 1 << 32
 
 
 def _place_of(key, value):
     """The number of a key's value: of a text that the key takes, its place among these."""
     if key not in _CHOICES:
+        if not _is_number(value):
+            raise Error(FAULT, "parameter fault 3: %s is no number below 4294967296" % key)
         return value
     if value not in _CHOICES[key]:
         raise ValueError("%s is one of: %s" % (key, " ".join(_CHOICES[key])))
@@ -353,9 +360,9 @@ def _zone_by_words(words, kind, index):
 
 
 def _zone_by_numbers(values, kind, index):
-    place, answer = _Place(), _LayoutAnswer()
-    status = _library.oopsbox_zone_at(ctypes.byref(_numbers(values)), _KINDS.index(kind), index, ctypes.byref(place),
-                                      ctypes.byref(answer))
+    place, answer, params = _Place(), _LayoutAnswer(), _numbers(values)
+    status = _library.oopsbox_zone_at(ctypes.byref(params), _KINDS.index(kind), index, ctypes.byref(place),
+                                      ctypes.byref(answer)) if _is_number(index) else ARGUMENT
     if status == FAULT:
         raise Error(status, "layout fault %d" % answer.fault)
     if status != DONE:
@@ -391,7 +398,8 @@ class Ring:
         is signed and erased. A log that is there is kept, its damage corrected. A boot of Linux does otherwise: it shows
         a console or a pmsg log once, in pstore, and erases it. With keep=False the zone is booted like that.
 
-        Raises Error if there is no such zone or no layout.
+        All of the file is allocated, so on a full disk this raises OSError, and no later store fails. It raises Error
+        if there is no such zone or no layout.
         """
         if words is not None and params:
             raise TypeError("parameters are words or keywords, not both")
@@ -399,8 +407,10 @@ class Ring:
         place, mem = find(params if words is None else words, kind, index)
         file = os.open(path, os.O_RDWR | os.O_CREAT, 0o666)
         try:
-            if os.fstat(file).st_size < mem:
-                os.ftruncate(file, mem)
+            found = os.fstat(file)
+            if found.st_size < mem or found.st_blocks * 512 < mem:
+                # the first store into a hole is a SIGBUS if the disk is full
+                os.posix_fallocate(file, 0, mem)
             mapping = mmap.mmap(file, mem)
         finally:
             os.close(file)
@@ -436,11 +446,31 @@ class Ring:
 
     def _boot_kept(self):
         # a boot keeps an ftrace ring that can be appended to, and no other ring
-        as_ftrace, log = _Place.from_buffer_copy(self._place), self.log()
+        self._make_open()
+        as_ftrace = _Place.from_buffer_copy(self._place)
         as_ftrace.kind = _FTRACE
         self._boot(as_ftrace)
-        if log and not self._read().log:
-            self.append(log)
+
+    def _make_open(self):
+        """Makes a ring one that can be appended to, by a store of one word, and of the header's parity if there is any.
+
+        An append that was cut after its first word left a size that is ahead of the start. The size goes back: the ring
+        is as before that append. A start at the ring's end goes to 0, which is the same place.
+        """
+        place, found = self._place, self._read()
+        words = [found.sig, found.start, found.size]
+        if found.log and found.start == place.cap:
+            at, words[1] = 4, 0
+        elif found.log and found.start != found.size and found.size != place.cap:
+            at, words[2] = 8, found.start
+        else:
+            return
+        header = b"".join(word.to_bytes(4, _CHOICES["byte_order"][place.byte_order]) for word in words)
+        self._make_one(_Store(what=_WORD, place=at, word=int.from_bytes(header[at:at + 4], "little")), b"")
+        if place.parity:
+            parity = (ctypes.c_uint8 * 128)(*rs_encode(header, place.parity))
+            at = 12 + place.cap + place.blocks * place.parity
+            self._make_one(_Store(what=_BYTES, place=at, len=place.parity, bytes=parity), b"")
 
     def _read(self):
         answer = _ZoneAnswer()

@@ -38,7 +38,7 @@ Row = namedtuple("Row", "path died signature reason time functions zones_bad cor
 Death = namedtuple("Death", "count signature")
 
 NOT_TOLD, NOT_REPORTED = "(no record tells why)", "(not reported)"
-_MOST = 1 << 24
+_MOST = 1 << 27
 
 
 def _reason(text):
@@ -67,7 +67,7 @@ def _told(path, line):
 def row(image, words=""):
     """The row of an image: a path, its bytes, or both as (path, bytes). It raises nothing.
 
-    Words are parameters, as oopsbox.report has them. Of a file the first 16 MiB are read: no region has more.
+    Words are parameters, as oopsbox.report has them. It reads the first 128 MiB of a file: no storage is longer.
     """
     path, content = image if isinstance(image, tuple) else (image, None)
     if content is None and not isinstance(path, (str, os.PathLike)):

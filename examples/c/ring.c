@@ -12,6 +12,7 @@
 #include <stdio.h>
 #include <string.h>
 #include <sys/mman.h>
+#include <sys/stat.h>
 #include <unistd.h>
 
 /* One console zone, with 16 bytes of parity for each 128 bytes of the log. */
@@ -80,6 +81,16 @@ static uint32_t ring_boot(struct ring *ring)
 	return status;
 }
 
+/*
+ * Makes a shorter file as long as the region; a longer one is not this program's. All of it is allocated now: once the
+ * disk is full, a store into a hole would end the process (SIGBUS).
+ */
+static int fits(int file, off_t length)
+{
+	struct stat found;
+	return fstat(file, &found) == 0 && found.st_size <= length && posix_fallocate(file, 0, length) == 0;
+}
+
 /* Opens the file's zone, or makes the file. What was logged before stays. */
 static int ring_open(struct ring *ring, const char *path)
 {
@@ -89,7 +100,7 @@ static int ring_open(struct ring *ring, const char *path)
 	if (oopsbox_zone_at(&params, OOPSBOX_CONSOLE, 0, &ring->place, &answer) != OOPSBOX_DONE
 	    || oopsbox_table(ring->place.parity, ring->table, OOPSBOX_TABLE) != OOPSBOX_DONE)
 		return -1;
-	if (file >= 0 && ftruncate(file, answer.mem) == 0)
+	if (file >= 0 && fits(file, answer.mem))
 		region = mmap(NULL, answer.mem, PROT_READ | PROT_WRITE, MAP_SHARED, file, 0);
 	if (file >= 0)
 		close(file);

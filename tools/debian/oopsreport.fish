@@ -2,7 +2,10 @@
 set -l keys mem_size= record_size= console_size= ftrace_size= pmsg_size= ecc= cpus= ftrace_sig= block_size= \
     ecc_dump= ecc_console= ecc_ftrace= ecc_pmsg= order= byte_order=
 
-complete -c oopsreport -l param -x -a "$keys" -d "A parameter of the layout"
+set -l more ftrace_entry= pstore_blk.kmsg_size= pstore_blk.pmsg_size= pstore_blk.console_size= \
+    pstore_blk.ftrace_size= pstore_blk.cpus=
+
+complete -c oopsreport -l param -x -a "$keys $more" -d "A parameter of the layout"
 complete -c oopsreport -l cmdline -x -d "A kernel's command line"
 complete -c oopsreport -l cmdline-file -r -F -d "A file with a kernel's command line"
 complete -c oopsreport -l kernel -x -d "The version of the kernel that wrote the ftrace zones"

@@ -2,8 +2,10 @@
 # Completion of oopsreport for zsh: its options and what they take, and files.
 local -a keys=(mem_size= record_size= console_size= ftrace_size= pmsg_size= ecc= cpus= ftrace_sig= block_size=
     ecc_dump= ecc_console= ecc_ftrace= ecc_pmsg= order= byte_order=)
+local -a more=(ftrace_entry= pstore_blk.kmsg_size= pstore_blk.pmsg_size= pstore_blk.console_size=
+    pstore_blk.ftrace_size= pstore_blk.cpus=)
 _arguments \
-    "*--param[a parameter of the layout]:parameter:compadd -S '' $keys" \
+    "*--param[a parameter of the layout]:parameter:compadd -S '' $keys $more" \
     '--cmdline[a command line of a kernel]:words:' \
     '--cmdline-file[a file with a command line of a kernel]:file:_files' \
     '--kernel[the version of the kernel that wrote the ftrace zones]:version:' \

@@ -1,7 +1,8 @@
 """The report through the library is what the program oopsreport prints: of both regions, of generated and damaged images
 and of a board's device tree, in each format, by words and with the layout looked for. A refusal is one of the program's,
-with its cause.   Usage: report.py OOPSBOX OOPSREPORT IMAGES"""
+with its cause. A row of oopsbox_fleet has a death after 20 MiB.   Usage: report.py OOPSBOX OOPSREPORT IMAGES"""
 
+import json
 import os
 import random
 import re
@@ -10,6 +11,7 @@ import sys
 import tempfile
 
 import oopsbox
+import oopsbox_fleet
 
 box, program, images = sys.argv[1], sys.argv[2], int(sys.argv[3])
 random.seed(7)
@@ -56,6 +58,18 @@ def compare(path, words="", tree=None):
         counts[0] = counts.get(0, 0) + 1
 
 
+def late_storage(path):
+    """A storage with 20 MiB of other zones before its dumps."""
+    with open("examples/pstore_blk/storage.bin", "rb") as file:
+        storage = file.read()
+    with open(path, "wb") as file:
+        file.seek(20 << 20)
+        file.write(storage)
+    death = json.loads(asked(path, "", None, "json")[1])["death"]
+    row = oopsbox_fleet.row(path)
+    assert death and row.died == death["line"], (death, row)
+
+
 def damaged(image):
     image = bytearray(image)
     for _ in range(random.choice((0, 3, 40, 400))):
@@ -97,6 +111,7 @@ with tempfile.TemporaryDirectory() as folder:
         compare(path, "", tree)
         compare(path, "cpus=2", tree)
         compare(path, "cpus=2", broken)
+    late_storage(path)
 for wrong in (dict(format="xml"), dict(words=b"\xff"), dict(name=b"\xff")):
     try:
         oopsbox.report(bytes(4096), **wrong)

@@ -1,5 +1,6 @@
 """A Ring of the Python module: what was appended is there for the next process and for the program, whatever the end of
-the process was; a full ring has the last bytes.   Usage: ring.py PROGRAM"""
+the process was, also if the next one ends as it opens the file; a full ring has the last bytes; the file has no holes;
+numbers that are too large are refused.   Usage: ring.py PROGRAM"""
 
 import os
 import signal
@@ -30,11 +31,124 @@ def refused(error, call, *arguments, **named):
     return False
 
 
+class Cut(Exception):
+    """The process ends here."""
+
+
+def is_cut(count, call):
+    """Makes at most so many stores of a call. Answers whether it has more."""
+    make_one, made = oopsbox.Ring._make_one, []
+
+    def one(ring, store, payload):
+        if len(made) == count:
+            raise Cut
+        made.append(store)
+        make_one(ring, store, payload)
+
+    oopsbox.Ring._make_one = one
+    try:
+        call()
+    except Cut:
+        return True
+    finally:
+        oopsbox.Ring._make_one = make_one
+    return False
+
+
+def reopen(path, words):
+    oopsbox.Ring.open(path, words=words).close()
+
+
+def contents_of(path):
+    with open(path, "rb") as file:
+        return file.read()
+
+
+def put(path, at, content):
+    with open(path, "r+b") as file:
+        file.seek(at)
+        file.write(content)
+
+
+def cut_twice(path, words):
+    """An append is cut after each of its stores, and then the opening: what was there before is there.
+
+    The append changes both low bytes of the size, and no byte of block 0. After its words alone nothing else differs.
+    """
+    with oopsbox.Ring.open(path, words=words) as ring:
+        ring.append(b"0123456789" * 25)
+        before = ring.log()
+    image, parity = contents_of(path), ring._place.parity
+    for first in range(100):
+        put(path, 0, image)
+        with oopsbox.Ring.open(path, words=words) as ring:
+            has_more = is_cut(first, lambda: ring.append(b"second line\n"))
+        after_one = contents_of(path)
+        for second in range(100):
+            put(path, 0, after_one)
+            opening_has_more = is_cut(second, lambda: reopen(path, words))
+            with oopsbox.Ring.open(path, words=words) as ring:
+                log = ring.log()
+                assert len(log) in (250, 262) and log[:128] == before[:128], (first, second, log)
+                assert first > 2 or log[:250] == before, (first, second, log)
+                assert first != 1 or log == before, (first, second, log)
+                ring.append(b"!")
+                assert ring.log() == log + b"!"
+            if not opening_has_more:
+                break
+        if not has_more:
+            break
+    assert log == before + b"second line\n" and first >= (3 if parity == 0 else 4)
+
+
+def not_open(path, words, byte_order):
+    """Headers that are whole, of rings that cannot be appended to: a size that is ahead, and a start at the end."""
+    with oopsbox.Ring.open(path, words=words, keep=False) as ring:
+        place, data = ring._place, bytes(i % 251 for i in range(ring._place.cap))
+        ring.append(data)
+    image = contents_of(path)
+    for start, size, log in ((3, 9, data[:3]), (0, 9, b""), (300, 1000, data[:300]), (place.cap, place.cap, data)):
+        header = b"".join(word.to_bytes(4, byte_order) for word in (place.sig, start, size))
+        put(path, 0, image)
+        put(path, place.at, header)
+        if place.parity:
+            put(path, place.at + 12 + place.cap + place.blocks * place.parity, oopsbox.rs_encode(header, place.parity))
+        with oopsbox.Ring.open(path, words=words) as ring:
+            assert ring.log() == log, (start, size)
+            assert (ring._read().corrected, ring._read().bad) == (0, 0)
+            ring.append(b"!")
+            assert ring.log() == (log + b"!")[-place.cap:]
+
+
+def error_of(path, **values):
+    try:
+        oopsbox.Ring.open(path, **values)
+    except oopsbox.Error as error:
+        return error
+    raise AssertionError(values)
+
+
+def has_no_holes(path):
+    return os.stat(path).st_blocks * 512 >= os.path.getsize(path)
+
+
+def out_of_range(path):
+    """Numbers that words refuse are refused by keyword, as faults of parameters; a zone's number is the zone's."""
+    for number in (-1, 1 << 32, (1 << 32) + 16384, (1 << 64) + 16384):
+        for key in ("mem_size", "record_size", "ecc", "ecc_pmsg", "cpus", "block_size", "ftrace_sig"):
+            for values in ({"words": "%s=%d" % (key, number)}, {"mem_size": 16384, key: number}):
+                error = error_of(path, **values)
+                assert error.status == oopsbox.FAULT and "parameter fault 3" in str(error), (values, error)
+        for values in ({"words": "mem_size=16384"}, {"mem_size": 16384}):
+            assert error_of(path, index=number, **values).status == oopsbox.ARGUMENT, number
+    assert not os.path.exists(path)
+
+
 def one_file(path, ecc):
     words = WORDS % ecc
     lines = [b"line %d\n" % i for i in range(700)]
     with oopsbox.Ring.open(path, **numbers(words)) as console, oopsbox.Ring.open(path, "pmsg", words=words) as pmsg:
-        assert console.log() == b"" and os.path.getsize(path) == 16384
+        assert console.log() == b"" and os.path.getsize(path) == 16384 and has_no_holes(path)
         for line in lines[:300]:
             console.append(line)
         pmsg.append(b"message")
@@ -79,7 +193,18 @@ def damaged(path, words, log):
 with tempfile.TemporaryDirectory() as folder:
     for ecc in (0, 1, 32):
         one_file(os.path.join(folder, "region-%d" % ecc), ecc)
+    path = os.path.join(folder, "sparse")
+    with open(path, "wb") as file:
+        file.truncate(20000)
+    reopen(path, WORDS % 0)
+    assert os.path.getsize(path) == 20000 and os.stat(path).st_blocks * 512 >= 16384
+    for ecc in (0, 1, 2, 32):
+        for byte_order in ("little", "big"):
+            words = "%s byte_order=%s" % (WORDS % ecc, byte_order)
+            cut_twice(os.path.join(folder, "cut-%d-%s" % (ecc, byte_order)), words)
+            not_open(os.path.join(folder, "closed-%d-%s" % (ecc, byte_order)), words, byte_order)
     path = os.path.join(folder, "other")
+    out_of_range(path)
     assert refused(oopsbox.Error, oopsbox.Ring.open, path, mem_size=4096) and not os.path.exists(path)
     without = "mem_size=4096 record_size=0 ftrace_size=0 pmsg_size=0"
     assert refused(oopsbox.Error, oopsbox.Ring.open, path, "pmsg", words=without)

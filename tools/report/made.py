@@ -102,11 +102,12 @@ class Checks:
         return out
 
     def terminal_run(self, stream, *words, **environment):
-        """What a terminal gets from a run of which it is one output (1 or 2), and what a file gets from the other."""
+        """What a terminal gets from a run of which it is one output (1 or 2) or both (3), and what a file gets from the
+        other."""
         master, slave = pty.openpty()
         tty.setraw(slave)
         with tempfile.TemporaryFile() as other:
-            streams = {"stdout": other, "stderr": slave} if stream == 2 else {"stdout": slave, "stderr": other}
+            streams = {"stdout": slave if stream & 1 else other, "stderr": slave if stream & 2 else other}
             env = {key: value for key, value in os.environ.items() if key != "NO_COLOR"} | environment
             run = subprocess.Popen([self.program, *words], cwd=self.path, env=env, stdin=subprocess.DEVNULL, **streams)
             os.close(slave)

@@ -1,6 +1,6 @@
 -- Lines of calls on a loaded store
-use Rattle.std.proofs.Common.{◌≡◌, ℕ, Bool, List, [], Option, Some, None, IfSome, Ok, Err, refl, sym, ap, ◌∙◌, arith}
-use Rattle.std.proofs.Common.{inl, inr}
+use Rattle.std.proofs.Common.{◌≡◌, ◌⊎◌, ℕ, Bool, List, [], length, Option, Some, None, IfSome, Ok, Err, refl, sym, ap}
+use Rattle.std.proofs.Common.{◌∙◌, arith, inl, inr}
 use Rattle.outside.specs.Outside.{Rose}
 use Rattle.zone_spec.specs.declared.ZoneName.{ZoneName}
 use Rattle.blk_spec.specs.declared.BlkLayout.{BlkLayout}
@@ -16,14 +16,14 @@ use Rattle.blk_spec.specs.Writes.{after_writes, store_after, bytes_in}
 use Rattle.blk_spec.specs.States.{BlkState, loaded, load_writes, cut_after}
 use Rattle.blk_spec.specs.Session.{Append, AppendElsewhere, Dump as DumpNow, Erase as EraseRecord, cause_of}
 use Rattle.blk_spec.specs.Session.{session_after, load_session}
-use Rattle.blk_spec.specs.Answers.{Device, further, HasFront, Loads}
+use Rattle.blk_spec.specs.Answers.{Device, further, HasFront, IsUnwritten, Loads}
 use Rattle.grammar_spec.specs.declared.line.Line.TheVariants.{Write, Boot, Erase, KDump, CutAfter}
 use Rattle.script_spec.specs.BlkScripts.{blk_line_done, operation_of, append_to, ring_for, blk_named, line_writes}
 use Rattle.script_spec.specs.declared.Cause.TheVariants.{NoZone, NoRecord}
 use Rattle.blk_session.specs.declared.errors.LineError.TheVariants.{Refused}
+use Rattle.blk_session.specs.Asked.{line_asks, LoadingFails, FailsAtLine}
 use Rattle.blk_session.specs.Lines.{LineDone, IsWantedLine, LineFails, error_of}
 use Rattle.blk_session.proofs.Operations.{line_fails}
-use Rattle.blk_session.proofs.Writes.{load-unasked}
 use Rattle.zone_blk.proofs.Sequences.{none-told, tried-within}
 
 -- ---- which operation a line is
@@ -76,7 +76,8 @@ pub cut_done : (b new : BlkState) (limit : ℕ) (store : Device) → new ≡ cut
 unfolding blk_line_done operation_of cause_of session_after
 cut_done b new limit store e = record {
   told = λ bytes told. record { after = bytes; holds = told; done = rw e refl };
-  asks = record { unwritten = λ none. refl; unread = λ other. refl };
+  asked = refl;
+  unread = refl;
 }
 
 -- ---- a loading
@@ -94,6 +95,12 @@ unfolding operation_of
 load_line layout None h = refl
 load_line layout (Some b) h = rw h refl
 
+load_asks : (layout : BlkLayout) (old : Option BlkState) → IfSome old (λ b. b.layout ≡ layout)
+    → line_asks layout old Boot ≡ length (load_writes layout)
+unfolding operation_of
+load_asks layout None h = refl
+load_asks layout (Some b) h = rw h refl
+
 load_wanted : (layout : BlkLayout) (old : Option BlkState) → IfSome old (λ b. b.layout ≡ layout)
     → IsWantedLine layout old Boot
 load_wanted layout old h = λ bytes. record {
@@ -102,8 +109,9 @@ load_wanted layout old h = λ bytes. record {
 }
 
 pub load_done : (layout : BlkLayout) (b : BlkState) (before now : Device) → Loads (Ok b) layout before now
-    → (old : Option BlkState) → IfSome old (λ b. b.layout ≡ layout) → LineDone layout old Boot (Some b) [] before now
-load_done layout b before now l old h = record {
+    → now.read_faults ≡ before.read_faults → (old : Option BlkState) → IfSome old (λ b. b.layout ≡ layout)
+    → LineDone layout old Boot (Some b) [] before now
+load_done layout b before now l unread old h = record {
   told = λ bytes told.
       let same : b ≡ loaded layout bytes = rw told at l.1 in
       record {
@@ -111,26 +119,35 @@ load_done layout b before now l old h = record {
         holds = l.2 ∙ ap (store_after (load_writes layout)) told;
         done = loads layout old bytes h ∙ rw same refl;
       };
-  asks = record {
-    unwritten = λ e. l.3 ∙ ap (λ n. further n before.writes)
-        (load-unasked layout (ap bytes_in (sym (load_line layout old h)) ∙ e));
-    unread = λ other. absurd (other refl);
-  };
+  asked = l.3 ∙ ap (λ (n : ℕ). further n before.writes) (sym (load_asks layout old h));
+  unread = unread;
 }
 
 -- the store failed within a loading
-load_faults : (layout : BlkLayout) (before now : Device) → Loads (Err StoreFaultThere) layout before now
-    → HasFront (load_writes layout) before.holds now.holds
-    × (bytes_in (load_writes layout) ≡ 0 → now.writes ≡ before.writes)
-load_faults layout before now (inl quiet) = (
-  record { kept = 0; within = omega arith; store = quiet.0 ∙ none-told (load_writes layout) before.holds },
-  λ e. quiet.1,
-)
-load_faults layout before now (inr f) =
-    let tried = tried-within f.made f.others (load_writes layout) f.failed f.tried f.parts f.within in (
-      record { kept = f.kept; within = omega (arith, f.most, tried); store = f.store },
-      λ e. absurd (omega (arith, e, f.some, tried)),
-    )
+module _ (layout : BlkLayout) (before now : Device) where
+  load_front : LoadingFails layout before now → HasFront (load_writes layout) before.holds now.holds
+  load_front (inl quiet) =
+      record { kept = 0; within = omega arith; store = quiet.0 ∙ none-told (load_writes layout) before.holds }
+  load_front (inr f) =
+      let tried = tried-within f.made f.others (load_writes layout) f.failed f.tried f.parts f.within in
+      record { kept = f.kept; within = omega (arith, f.most, tried); store = f.store }
+
+  load_unwritten : LoadingFails layout before now → bytes_in (load_writes layout) ≡ 0 → now.writes ≡ before.writes
+  load_unwritten (inl quiet) e = quiet.1
+  load_unwritten (inr f) e =
+      let tried = tried-within f.made f.others (load_writes layout) f.failed f.tried f.parts f.within in
+      absurd (omega (arith, e, f.some, tried))
+
+  load_unread : LoadingFails layout before now
+      → ((Boot ≡ Boot) × IsUnwritten before now) ⊎ (now.read_faults ≡ before.read_faults)
+  load_unread (inl quiet) = inl (refl, quiet)
+  load_unread (inr f) = inr f.unread
+
+  load_failed : LoadingFails layout before now → (old : Option BlkState) → IfSome old (λ b. b.layout ≡ layout)
+      → FailsAtLine layout old Boot before now
+  unfolding operation_of
+  load_failed f None h = f
+  load_failed f (Some b) h = rw h f
 
 pub load_fails : (layout : BlkLayout) (fault : BlkFault) (before now : Device) (faults later : ℕ)
     → Loads (Err fault) layout before now → (fault ≡ StoreFaultThere → Rose faults later)
@@ -138,17 +155,15 @@ pub load_fails : (layout : BlkLayout) (fault : BlkFault) (before now : Device) (
     → LineFails (error_of fault) layout old Boot before now faults later
 load_fails layout NoZoneThere before now faults later l rose old h = absurd l
 load_fails layout NoRecordThere before now faults later l rose old h = absurd l
-load_fails layout MemoryThere before now faults later l rose old h = (l, tt, load_wanted layout old h)
-load_fails layout StoreFaultThere before now faults later l rose old h =
-    let f = load_faults layout before now l in (
-      rose refl,
-      record {
-        front = rw (load_line layout old h) f.0;
-        wanted = load_wanted layout old h;
-        needs = inl refl;
-        asks = record {
-          unwritten = λ e. f.1 (ap bytes_in (sym (load_line layout old h)) ∙ e);
-          unread = λ other. absurd (other refl);
-        };
-      },
-    )
+load_fails layout MemoryThere before now faults later l rose old h = (l, tt, load_wanted layout old h, inl refl)
+load_fails layout StoreFaultThere before now faults later l rose old h = (
+  rose refl,
+  record {
+    front = rw (load_line layout old h) (load_front layout before now l);
+    wanted = load_wanted layout old h;
+    needs = inl refl;
+    failed = load_failed layout before now l old h;
+    unwritten = λ e. load_unwritten layout before now l (ap bytes_in (sym (load_line layout old h)) ∙ e);
+    unread = load_unread layout before now l;
+  },
+)

@@ -12,8 +12,8 @@ use Rattle.kmsg_spec.specs.declared.Reason.{Reason}
 use Rattle.blk_spec.specs.declared.BlkFault.{BlkFault}
 use Rattle.blk_spec.specs.declared.BlkFault.TheVariants.{NoZone as NoZoneThere, NoRecord as NoRecordThere}
 use Rattle.blk_spec.specs.declared.BlkFault.TheVariants.{StoreFault as StoreFaultThere, Memory as MemoryThere}
-use Rattle.blk_spec.specs.Writes.{Write as StoreWrite, after_writes, store_after, bytes_in, reaching, spent}
-use Rattle.blk_spec.specs.Answers.{Device, FailsWithin, Answers}
+use Rattle.blk_spec.specs.Writes.{Write as StoreWrite, after_writes, store_after, bytes_in, reaching, spent, asks_of}
+use Rattle.blk_spec.specs.Answers.{Device, further, FailsWithin, Answers}
 use Rattle.blk_spec.specs.Layout.{ring_zone, dump_zone}
 use Rattle.blk_spec.specs.Dumps.{counter_for}
 use Rattle.blk_spec.specs.States.{BlkState, append_refusal, append_of, appended, dump_refusal, dump_of, dump_pieces_of}
@@ -26,12 +26,12 @@ use Rattle.grammar_spec.specs.declared.line.Line.{Line}
 use Rattle.grammar_spec.specs.declared.line.Line.TheVariants.{Write, Boot, List as ListLine, Extract, Erase, KDump}
 use Rattle.grammar_spec.specs.declared.line.Line.TheVariants.{CutAfter}
 use Rattle.script_spec.specs.BlkScripts.{blk_line_done, operation_of, performs, performs_if, done_unless, put_loaded}
-use Rattle.script_spec.specs.BlkScripts.{writes_loaded}
+use Rattle.script_spec.specs.BlkScripts.{writes_loaded, writes_by}
 use Rattle.blk_session.specs.declared.errors.LineError.{LineError}
 use Rattle.blk_session.specs.declared.errors.LineError.TheVariants.{Memory, StoreFault, Refused}
-use Rattle.blk_session.specs.Lines.{LineAsks, LineDone, LineFails, OperationAsks, OperationDone, OperationFaults}
-use Rattle.blk_session.specs.Lines.{OperationFails, error_of}
-use Rattle.blk_session.proofs.Writes.{front-reached, some-reached, made-unasked}
+use Rattle.blk_session.specs.Asked.{asks_loaded, FailsIn, FailsLoaded}
+use Rattle.blk_session.specs.Lines.{LineDone, LineFails, OperationDone, OperationFaults, OperationFails, error_of}
+use Rattle.blk_session.proofs.Writes.{front-reached, some-reached}
 use Rattle.blk_laws.proofs.Pieces.{dump-pieces}
 
 -- ---- calls
@@ -42,6 +42,8 @@ pub record IsCallOf (b : BlkState) (operation : Operation) (refusal : Option Blk
   pub cause : cause_loaded b operation ≡ cause_for refusal
   pub done : (store : List ℕ) → done_loaded store b operation ≡ called store b ws next
   pub writes : writes_loaded b operation ≡ reaching b.cut ws
+  pub asks : asks_loaded b operation ≡ asks_of b.cut pieces
+  pub fails : (before now : Device) → FailsIn ws pieces b.cut before now → FailsLoaded b operation before now
   pub silent : put_loaded b operation ≡ []
   pub same : bytes_in pieces ≡ bytes_in ws
   pub takes_none : refusal ≢ Some MemoryThere
@@ -57,6 +59,8 @@ append_call b ring payload = record {
   cause = refl;
   done = λ store. refl;
   writes = refl;
+  asks = refl;
+  fails = λ before now f. f;
   silent = refl;
   same = refl;
   takes_none = no-zone ((ring_zone b.layout ring).size == 0);
@@ -69,6 +73,8 @@ dump_call b time packed reason body = record {
   cause = refl;
   done = λ store. refl;
   writes = refl;
+  asks = refl;
+  fails = λ before now f. f;
   silent = refl;
   same = (dump-pieces (dump_zone b.layout b.cursor) time packed (counter_for reason b.counters) reason body).0;
   takes_none = no-zone (b.layout.dumps == 0);
@@ -89,6 +95,8 @@ erase_call b name = record {
   cause = unlisted (is_listed b name);
   done = λ store. refl;
   writes = refl;
+  asks = refl;
+  fails = λ before now f. f;
   silent = refl;
   same = refl;
   takes_none = no-record (is_listed b name);
@@ -118,10 +126,8 @@ module _ (b : BlkState) (operation : Operation) (refusal : Option BlkFault) (ws 
           done = performed bytes ∙ rw a.0 (ap (λ (n : BlkState). Ok
               (record { session = record { store = after; blk = Some n }; text = [] })) (sym same));
         };
-    asks = record {
-      unwritten = λ e. made-unasked b.cut new.cut ws pieces is.same before now a.1 (rw is.writes at e);
-      unread = a.1.unread;
-    };
+    asked = a.1.asked ∙ ap (λ (n : ℕ). further n before.writes) (sym is.asks);
+    unread = a.1.unread;
   }
 
   faults_within : (new : BlkState) (before now : Device) → refusal ≡ None
@@ -136,7 +142,8 @@ module _ (b : BlkState) (operation : Operation) (refusal : Option BlkFault) (ws 
           is = performed bytes ∙ rw none refl;
         };
         some = some;
-        asks = record { unwritten = λ e. absurd (omega (arith, e, some)); unread = f.unread };
+        failed = is.fails before now (record { after = new.cut; within = f });
+        unread = f.unread;
       }
 
   fails : (fault : BlkFault) (new : BlkState) (before now : Device) (faults later : ℕ)
@@ -183,16 +190,13 @@ module _ (layout : BlkLayout) (old : Option BlkState) (line : Line) (operation :
       ≡ performs layout (record { store = bytes; blk = old }) operation
   line_is bytes = as_operation layout (record { store = bytes; blk = old }) line operation is
 
-  asks_is : (before now : Device) → OperationAsks layout old operation before now
-      → LineAsks layout old line before now
-  asks_is before now a = record { unwritten = λ e. a.unwritten (rw is at e); unread = λ other. a.unread }
-
   pub line_done : (new : Option BlkState) (text : Text) (before now : Device)
       → OperationDone layout old operation new text before now → LineDone layout old line new text before now
   line_done new text before now h = record {
     told = λ bytes told. let d = h.told bytes told in
         record { after = d.after; holds = d.holds; done = line_is bytes ∙ d.done };
-    asks = asks_is before now h.asks;
+    asked = rw is h.asked;
+    unread = h.unread;
   }
 
   pub line_fails : (error : LineError) (before now : Device) (faults later : ℕ)
@@ -206,7 +210,10 @@ module _ (layout : BlkLayout) (old : Option BlkState) (line : Line) (operation :
       wanted = λ bytes. let w = h.1.wanted bytes in
           record { wants = w.wants; is = line_is bytes ∙ w.is };
       needs = inr (rw is h.1.some);
-      asks = asks_is before now h.1.asks;
+      failed = rw is h.1.failed;
+      unwritten = λ e. let none : bytes_in (writes_by layout old operation) ≡ 0 = rw is at e in
+          absurd (omega (arith, none, h.1.some));
+      unread = inr h.1.unread;
     },
   )
   line_fails (Refused cause) before now faults later h = (h.0, λ bytes. line_is bytes ∙ h.1 bytes)

@@ -4,7 +4,7 @@ use Rattle.std.specs.Global.{Vec}
 use Rattle.std.specs.Prelude.{MatchResult, IsSome}
 use Rattle.std.specs.Option.{option_map}
 use Rattle.std.proofs.Common.{◌≡◌, ◌≢◌, ℕ, ◌<◌, ◌^◌, Bool, true, List, [], Option, Some, None, Result, Ok, Err, refl}
-use Rattle.std.proofs.Common.{sym, ap, ◌∙◌}
+use Rattle.std.proofs.Common.{sym, ap, ◌∙◌, inr}
 use Rattle.zone_spec.specs.declared.ZoneName.{ZoneName}
 use Rattle.blk_spec.specs.declared.BlkLayout.{BlkLayout}
 use Rattle.blk_spec.specs.declared.BlkName.{BlkName}
@@ -24,20 +24,17 @@ use Rattle.script_spec.specs.declared.Cause.{Cause}
 use Rattle.script_spec.specs.declared.Cause.TheVariants.{IsOff, NotHere, NoRecord}
 use Rattle.blk_session.specs.declared.errors.LineError.{LineError}
 use Rattle.blk_session.specs.declared.errors.LineError.TheVariants.{Memory, StoreFault, Refused}
-use Rattle.blk_session.specs.Lines.{LineAsks, LineDone, IsWanted, LineFails, IsExtract}
+use Rattle.blk_session.specs.Lines.{LineDone, IsWanted, LineFails, IsExtract}
 use Rattle.blk_session.proofs.Operations.{as_operation, line_done, line_fails}
 use Rattle.blk_session.proofs.RecordNames.{named_listed}
 
-unasked : (layout : BlkLayout) (old : Option BlkState) (line : Line) (store : Device)
-    → LineAsks layout old line store store
-unasked layout old line store = record { unwritten = λ none. refl; unread = λ other. refl }
-
 pub blank_done : (layout : BlkLayout) (old : Option BlkState) (store : Device)
     → LineDone layout old Blank old [] store store
-unfolding blk_line_done
+unfolding blk_line_done operation_of
 blank_done layout old store = record {
   told = λ bytes told. record { after = bytes; holds = told; done = refl };
-  asks = unasked layout old Blank store;
+  asked = refl;
+  unread = refl;
 }
 
 -- the same of a line that is known to be blank, or to load, and of a text that is known
@@ -55,7 +52,8 @@ pub list_done : (b : BlkState) (text : List ℕ) (store : Device) → text ≡ b
 unfolding blk_line_done operation_of cause_of session_after
 list_done b text store e = record {
   told = λ bytes told. record { after = bytes; holds = told; done = rw e refl };
-  asks = unasked b.layout (Some b) ListLine store;
+  asked = refl;
+  unread = refl;
 }
 
 pub list_memory : (b : BlkState) (store : Device) (faults : ℕ)
@@ -68,6 +66,7 @@ list_memory b store faults = (
     wants = record { session = record { store = bytes; blk = Some b }; text = blk_listing b };
     is = refl;
   },
+  inr refl,
 )
 
 -- ---- the text of a record
@@ -103,13 +102,14 @@ extract_done b name text store h = of-named (blk_named (Some b) name) refl h
             done = extracts b n bytes (named_listed b name n (sym e))
                 ∙ ap (λ (t : List ℕ). Ok (record { session = record { store = bytes; blk = Some b }; text = t })) told;
           };
-          asks = record { unwritten = λ none. refl; unread = refl };
+          asked = refl;
+          unread = refl;
         })
 
 pub extract_memory : (b : BlkState) (name : List ℕ) (store : Device) (faults : ℕ)
     → IsSome (blk_named (Some b) name) → LineFails Memory b.layout (Some b) (Extract name) store store faults faults
 extract_memory b name store faults h =
-    ((refl, refl), tt, λ bytes. of-named bytes (blk_named (Some b) name) refl h)
+    ((refl, refl), tt, λ bytes. of-named bytes (blk_named (Some b) name) refl h, inr refl)
   where
     of-named : (bytes : List ℕ) (found : Option BlkName) → found ≡ blk_named (Some b) name → IsSome found
         → IsWanted (blk_line_done b.layout (record { store = bytes; blk = Some b }) (Extract name))

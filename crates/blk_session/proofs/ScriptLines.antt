@@ -1,6 +1,7 @@
 -- A script's lines, done one by one on the block store
 use Rattle.std.proofs.Common.{◌≡◌, ℕ, zero, suc, ◌+◌, ◌<◌, ◌≤◌, List, [], ◌∷◌, ◌++◌, length, take, get_or, slice_get}
-use Rattle.std.proofs.Common.{Option, Some, None, Result, Ok, Err, refl, sym, ap, ◌∙◌, arith, length-append}
+use Rattle.std.proofs.Common.{Option, Some, None, Result, Ok, Err, refl, sym, ap, ◌∙◌, ◌⊎◌, inl, inr, arith}
+use Rattle.std.proofs.Common.{length-append}
 use Rattle.std.proofs.lemmas.List.Sums.{fold_more}
 use Rattle.std.proofs.lemmas.List.Folds.{fold_stuck}
 use Rattle.std.proofs.lemmas.Option.{slice_get_read}
@@ -13,8 +14,9 @@ use Rattle.blk_spec.specs.States.{BlkState}
 use Rattle.blk_spec.specs.Session.{Session}
 use Rattle.grammar_spec.specs.Fields.{Text}
 use Rattle.grammar_spec.specs.declared.line.Line.{Line}
+use Rattle.grammar_spec.specs.declared.line.Line.TheVariants.{Boot}
 use Rattle.blk_spec.specs.Writes.{bytes_in}
-use Rattle.blk_spec.specs.Answers.{Device, HasFront}
+use Rattle.blk_spec.specs.Answers.{Device, HasFront, IsUnwritten, further}
 use Rattle.script_spec.specs.BlkScripts.{BlkDone, BlkRan, blk_ran, blk_ran_on, blk_next_line, blk_started}
 use Rattle.script_spec.specs.BlkScripts.{blk_line_done, line_writes, WriteNothing}
 use Rattle.script_spec.specs.Texts.{front, whole}
@@ -24,7 +26,10 @@ use Rattle.script_spec.specs.declared.Cause.{Cause}
 use Rattle.script_spec.specs.declared.LineStop.{LineStop}
 use Rattle.script_spec.specs.declared.LineStop.TheVariants.{Memory, StoreFault, SinkFault, Refused}
 use Rattle.script_laws.proofs.Play.{Extends, extends_self, extends_on, front_of, whole_more}
-use Rattle.blk_session.specs.Playing.{Seen, Puts, LineStops}
+use Rattle.blk_session.specs.Asked.{line_asks, asks_from, lines_ask}
+use Rattle.blk_session.specs.Playing.{Seen, Puts, LineStops, StopsLoading}
+use Rattle.blk_session.proofs.Writes.{line-unasked}
+use Rattle.zone_blk.proofs.Effects.{further-more}
 
 -- ---- texts only grow
 
@@ -72,6 +77,26 @@ text_at texts text long i e h = rw (h.is, ← e) (behind texts h.more)
     behind [] more = refl
     behind (t ∷ texts) more = behind texts more
 
+-- ---- how often lines ask
+
+first_ask : (n : ℕ) → n + 0 ≡ 0 + n
+first_ask n = omega arith
+
+next_ask : (n k m l : ℕ) → k ≡ m + l → n + k ≡ (n + m) + l
+next_ask n k m l e = omega (arith, e)
+
+asks_more : (layout : BlkLayout) (lines : List Line) (r : BlkRan) (i : ℕ) (line : Line) → i < length lines
+    → asks_from layout r (take (i + 1) lines) ≡ asks_from layout r (take i lines)
+    + line_asks layout (fold (blk_next_line layout) r (take i lines)).session.blk (get_or lines i line)
+unfolding asks_from
+asks_more layout [] r i line below = absurd (omega (arith, below))
+asks_more layout (x ∷ lines) r zero line below = first_ask (line_asks layout r.session.blk x)
+asks_more layout (x ∷ lines) r (suc i) line below =
+    let one : suc i + 1 ≡ suc (i + 1) = omega arith in
+    ap (λ (n : ℕ). asks_from layout r (take n (x ∷ lines))) one
+    ∙ next_ask (line_asks layout r.session.blk x) _ _ _
+    (asks_more layout lines (blk_next_line layout r x) i line (omega (arith, below)))
+
 -- ---- one line more
 
 on_done : (r : BlkRan) (c : Option Cause) (next : Result BlkDone Cause) (d : BlkDone) → c ≡ None → next ≡ Ok d
@@ -92,6 +117,7 @@ pub record PlaysTo (layout : BlkLayout) (bytes : List ℕ) (lines : List Line) (
   pub count : length (blk_ran layout bytes (take i lines)).texts ≡ i
   pub texts : Appends a.given b.given (whole (blk_ran layout bytes (take i lines)).texts)
   pub unwritten : WriteNothing layout bytes lines → b.store.writes ≡ a.store.writes
+  pub asked : b.store.writes ≡ further (lines_ask layout bytes (take i lines)) a.store.writes
 
 abbrev pub PlaysSoFar : BlkLayout → List Line → ℕ → Option BlkState → Seen → Seen → Type 0
 PlaysSoFar layout lines i blk a b = (bytes : List ℕ) → a.store.holds ≡ Some bytes → PlaysTo layout bytes lines i blk a b
@@ -102,6 +128,7 @@ Plays e layout lines a b = (bytes : List ℕ) → a.store.holds ≡ Some bytes
     → EndsAt e layout bytes lines a.given b.given b.store.holds
 
 pub plays_none : (layout : BlkLayout) (lines : List Line) (a : Seen) → PlaysSoFar layout lines 0 None a a
+unfolding asks_from
 plays_none layout lines a bytes told = record {
   store = bytes;
   holds = told;
@@ -110,6 +137,7 @@ plays_none layout lines a bytes told = record {
   count = refl;
   texts = Appends-nil a.given;
   unwritten = λ none. refl;
+  asked = refl;
 }
 
 module _ (layout : BlkLayout) (bytes : List ℕ) (lines : List Line) (i : ℕ) (line : Line) (below : i < length lines)
@@ -164,6 +192,13 @@ module _ (layout : BlkLayout) (bytes : List ℕ) (lines : List Line) (i : ℕ) (
         → bytes_in (line_writes layout blk line) ≡ 0
     writes_none done none = rw p.session at (none i line done line_at)
 
+    -- the line asks so often more
+    asks_next : lines_ask layout bytes (take (i + 1) lines)
+        ≡ lines_ask layout bytes (take i lines) + line_asks layout blk line
+    asks_next = asks_more layout lines (blk_started bytes) i line below
+        ∙ ap (λ (x : Line). lines_ask layout bytes (take i lines) + line_asks layout so_far.session.blk x) (sym is)
+        ∙ ap (λ (s : Session). lines_ask layout bytes (take i lines) + line_asks layout s.blk line) p.session
+
     pub on_next : (next : Option BlkState) (c : Seen) → Puts layout blk line next b c
         → PlaysTo layout bytes lines (i + 1) next a c
     on_next next c puts =
@@ -178,7 +213,11 @@ module _ (layout : BlkLayout) (bytes : List ℕ) (lines : List Line) (i : ℕ) (
           count = one_more d l.done;
           texts = rw (e, whole_more so_far.texts puts.text) (Appends-trans a.given b.given c.given (whole so_far.texts)
               puts.text p.texts puts.put);
-          unwritten = λ none. puts.done.asks.unwritten (writes_none (in_all d l.done) none) ∙ p.unwritten none;
+          unwritten = λ none. line-unasked layout blk line b.store c.store puts.done.asked
+              (writes_none (in_all d l.done) none) ∙ p.unwritten none;
+          asked = puts.done.asked ∙ ap (further (line_asks layout blk line)) p.asked
+              ∙ further-more (lines_ask layout bytes (take i lines)) (line_asks layout blk line) a.store.writes
+              ∙ ap (λ (n : ℕ). further n a.store.writes) (sym asks_next);
         }
 
     pub on_stop : (stop : LineStop) (c : Seen) → LineStops stop layout blk line (i + 1) b c
@@ -257,12 +296,33 @@ module _ (layout : BlkLayout) (bytes : List ℕ) (lines : List Line) (i : ℕ) (
     stays_on Memory c h none = h.1.0.1 ∙ p.unwritten none
     stays_on StoreFault c h none =
         let w = h.1.1.wanted p.store in
-        h.1.1.asks.unwritten (writes_none (in_all w.wants w.is) none) ∙ p.unwritten none
+        h.1.1.unwritten (writes_none (in_all w.wants w.is) none) ∙ p.unwritten none
     stays_on SinkFault c h none =
         let l = h.1.done.told p.store p.holds in
         let d : BlkDone = record { session = record { store = l.after; blk = h.1.new }; text = h.1.text } in
-        h.1.done.asks.unwritten (writes_none (in_all d l.done) none) ∙ p.unwritten none
+        line-unasked layout blk line b.store c.store h.1.done.asked (writes_none (in_all d l.done) none)
+        ∙ p.unwritten none
     stays_on (Refused n cause) c h none = ap (λ (d : Device). d.writes) h.2.0 ∙ p.unwritten none
+
+    -- a loading that failed as it read
+    loads_next : (c : Seen) → line ≡ Boot → IsUnwritten b.store c.store
+        → StopsLoading layout bytes lines a.store c.store
+    loads_next c loads same = record {
+      count = i;
+      next = line_at ∙ ap Some loads;
+      holds = same.0 ∙ p.holds ∙ ap (λ (s : Session). Some s.store) (sym p.session);
+      asked = same.1 ∙ p.asked;
+    }
+
+    pub reads_on : (stop : LineStop) (c : Seen) → LineStops stop layout blk line (i + 1) b c
+        → (c.store.read_faults ≡ b.store.read_faults) ⊎ StopsLoading layout bytes lines a.store c.store
+    reads_on Memory c h = elim h.1.3 [ inl loads ↦ inr (loads_next c loads h.1.0) | inr same ↦ inl same ]
+    reads_on StoreFault c h = elim h.1.1.unread [
+      | inl first ↦ inr (loads_next c first.0 first.1)
+      | inr same ↦ inl same
+    ]
+    reads_on SinkFault c h = inl h.1.done.unread
+    reads_on (Refused n cause) c h = inl (ap (λ (d : Device). d.read_faults) h.2.0)
 
 module _ (layout : BlkLayout) (lines : List Line) (i : ℕ) (line : Line) (below : i < length lines)
     (is : line ≡ get_or lines i line) (blk : Option BlkState) (a b : Seen)
@@ -280,6 +340,16 @@ module _ (layout : BlkLayout) (lines : List Line) (i : ℕ) (line : Line) (below
   plays_unwritten stop c h bytes told none =
       stays_on layout bytes lines i line below is blk a b (so_far bytes told) stop c h none
 
+  -- no reading failed before
+  pub plays_unread : b.store.read_faults ≡ a.store.read_faults → (stop : LineStop) (c : Seen)
+      → LineStops stop layout blk line (i + 1) b c → (bytes : List ℕ) → a.store.holds ≡ Some bytes
+      → (c.store.read_faults ≡ a.store.read_faults) ⊎ StopsLoading layout bytes lines a.store c.store
+  plays_unread none stop c h bytes told =
+      elim (reads_on layout bytes lines i line below is blk a b (so_far bytes told) stop c h) [
+        | inl same ↦ inl (same ∙ none)
+        | inr loads ↦ inr loads
+      ]
+
 pub plays_all : (layout : BlkLayout) (lines : List Line) (i : ℕ) (blk : Option BlkState) (a b : Seen)
     → length lines ≤ i → PlaysSoFar layout lines i blk a b → Plays (Ok tt) layout lines a b
 plays_all layout lines i blk a b all so_far bytes told =
@@ -290,6 +360,14 @@ plays_all layout lines i blk a b all so_far bytes told =
       texts = rw same at p.texts;
       holds = p.holds ∙ ap (λ (s : Session). Some s.store) (sym (rw same at p.session));
     }
+
+pub asked_all : (layout : BlkLayout) (lines : List Line) (i : ℕ) (blk : Option BlkState) (a b : Seen)
+    → length lines ≤ i → PlaysSoFar layout lines i blk a b → (bytes : List ℕ) → a.store.holds ≡ Some bytes
+    → b.store.writes ≡ further (lines_ask layout bytes lines) a.store.writes
+asked_all layout lines i blk a b all so_far bytes told =
+    let p : PlaysTo layout bytes lines i blk a b = so_far bytes told in
+    let same : take i lines ≡ lines = take_all i lines all in
+    p.asked ∙ ap (λ (ls : List Line). further (lines_ask layout bytes ls) a.store.writes) same
 
 -- a stop's cause, whether the store tells its bytes or not
 pub stop_caused : (stop : LineStop) (layout : BlkLayout) (blk : Option BlkState) (line : Line) (number : ℕ)

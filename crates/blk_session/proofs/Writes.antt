@@ -1,16 +1,22 @@
--- The first bytes of writes of which first bytes are taken
+-- The first bytes of writes of which first bytes are taken, and lines that do not ask the store
 use Rattle.std.proofs.Common.{◌≡◌, ℕ, ◌-◌, ◌<◌, ◌≤◌, ◌==◌, min, Bool, true, false, if◌then◌else◌, List, [], ◌∷◌, ◌++◌}
-use Rattle.std.proofs.Common.{length, take, refl, sym, ap, ◌∙◌, arith, length-take}
+use Rattle.std.proofs.Common.{length, take, Option, Some, None, refl, sym, ap, ◌∙◌, arith, length-take}
 use Rattle.std.proofs.lemmas.List.{take-take}
 use Rattle.blk_spec.specs.declared.BlkCut.{BlkCut}
 use Rattle.blk_spec.specs.declared.BlkCut.TheVariants.{Uncut, After, Dropped}
 use Rattle.blk_spec.specs.declared.BlkLayout.{BlkLayout}
 use Rattle.blk_spec.specs.declared.BlkRing.TheVariants.{Console, Pmsg}
-use Rattle.blk_spec.specs.Layout.{ring_zone}
+use Rattle.blk_spec.specs.Layout.{ring_zone, dump_zone}
 use Rattle.blk_spec.specs.Rings.{header_write, empty_words}
-use Rattle.blk_spec.specs.States.{load_writes}
+use Rattle.blk_spec.specs.Dumps.{counter_for}
+use Rattle.blk_spec.specs.States.{BlkState, load_writes, append_of, dump_of, dump_pieces_of, erase_of}
+use Rattle.blk_spec.specs.Session.{Operation, Load, Append, Dump, Erase}
 use Rattle.blk_spec.specs.Writes.{Write, store_after, bytes_in, first_bytes, through, reaching, spent, asks_of}
-use Rattle.blk_spec.specs.Answers.{Device, further, Makes, FailsWithin, HasFront}
+use Rattle.blk_spec.specs.Answers.{Device, further, FailsWithin, HasFront}
+use Rattle.grammar_spec.specs.declared.line.Line.{Line}
+use Rattle.script_spec.specs.BlkScripts.{operation_of, writes_if, line_writes}
+use Rattle.blk_session.specs.Asked.{asks_if, line_asks}
+use Rattle.blk_laws.proofs.Pieces.{dump-pieces}
 use Rattle.zone_blk.proofs.Effects.{through-within, through-more}
 use Rattle.zone_blk.proofs.Sequences.{tried-within}
 
@@ -76,19 +82,20 @@ asks-nothing c (p ∷ ps) e =
     let one : ◌≡◌ {A = ℕ} (if through c (length p.bytes) == 0 then 0 else 1) 0 = rw first refl in
     omega (arith, one, asks-nothing (spent (length p.bytes) c) ps rest)
 
-pub made-unasked : (c d : BlkCut) (ws pieces : List Write) → bytes_in pieces ≡ bytes_in ws → (before now : Device)
-    → Makes ws pieces c d before now → bytes_in (reaching c ws) ≡ 0 → now.writes ≡ before.writes
-made-unasked c d ws pieces same before now m e =
+-- nor do those of writes of which none reaches it
+none-asked : (c : BlkCut) (ws pieces : List Write) → bytes_in pieces ≡ bytes_in ws → bytes_in (reaching c ws) ≡ 0
+    → asks_of c pieces ≡ 0
+none-asked c ws pieces same e =
     let none : through c (bytes_in ws) ≡ 0 = omega (
       arith,
       e,
       bytes-first (through c (bytes_in ws)) ws,
       through-within c (bytes_in ws),
     ) in
-    m.asked ∙ ap (λ n. further n before.writes) (asks-nothing c pieces (ap (through c) same ∙ none))
+    asks-nothing c pieces (ap (through c) same ∙ none)
 
 -- a header is never empty
-pub load-unasked : (l : BlkLayout) → bytes_in (load_writes l) ≡ 0 → length (load_writes l) ≡ 0
+load-unasked : (l : BlkLayout) → bytes_in (load_writes l) ≡ 0 → length (load_writes l) ≡ 0
 unfolding load_writes bytes_in
 load-unasked l e = both (l.pmsg == 0) (l.console == 0) e
   where
@@ -101,3 +108,24 @@ load-unasked l e = both (l.pmsg == 0) (l.console == 0) e
     both true false e = cc
     both false true e = cc
     both false false e = cc
+
+operation-unasked : (layout : BlkLayout) (old : Option BlkState) (o : Option Operation)
+    → bytes_in (writes_if layout old o) ≡ 0 → asks_if layout old o ≡ 0
+operation-unasked layout old None e = refl
+operation-unasked layout None (Some Load) e = load-unasked layout e
+operation-unasked layout None (Some other) e = refl
+operation-unasked layout (Some b) (Some Load) e = load-unasked b.layout e
+operation-unasked layout (Some b) (Some (Append ring payload)) e =
+    none-asked b.cut (append_of b ring payload) (append_of b ring payload) refl e
+operation-unasked layout (Some b) (Some (Dump time packed reason body)) e =
+    none-asked b.cut (dump_of b time packed reason body) (dump_pieces_of b time packed reason body)
+    (dump-pieces (dump_zone b.layout b.cursor) time packed (counter_for reason b.counters) reason body).0 e
+operation-unasked layout (Some b) (Some (Erase (Some name))) e =
+    none-asked b.cut (erase_of b name) (erase_of b name) refl e
+operation-unasked layout (Some b) (Some other) e = refl
+
+pub line-unasked : (layout : BlkLayout) (old : Option BlkState) (line : Line) (before now : Device)
+    → now.writes ≡ further (line_asks layout old line) before.writes → bytes_in (line_writes layout old line) ≡ 0
+    → now.writes ≡ before.writes
+line-unasked layout old line before now asked e =
+    asked ∙ ap (λ n. further n before.writes) (operation-unasked layout old (operation_of old line) e)

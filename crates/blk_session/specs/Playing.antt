@@ -1,17 +1,20 @@
 -- A line of a script done on the block store, and its text put
-use Rattle.std.specs.Prelude.{◌≡◌, ℕ, ◌≤◌, List, Option}
+use Rattle.std.specs.Prelude.{◌≡◌, ℕ, ◌≤◌, List, take, slice_get, Option, Some}
 use Rattle.std.specs.Io.KnownBytes.{Appends}
 use Rattle.outside.specs.Outside.{AppendsFront, Rose}
 use Rattle.blk_spec.specs.declared.BlkLayout.{BlkLayout}
 use Rattle.blk_spec.specs.States.{BlkState}
-use Rattle.blk_spec.specs.Answers.{Device}
+use Rattle.blk_spec.specs.Answers.{Device, further}
 use Rattle.grammar_spec.specs.Fields.{Text}
 use Rattle.grammar_spec.specs.declared.line.Line.{Line}
+use Rattle.grammar_spec.specs.declared.line.Line.TheVariants.{Boot}
+use Rattle.script_spec.specs.BlkScripts.{blk_ran}
 use Rattle.script_spec.specs.declared.LineStop.{LineStop}
 use Rattle.script_spec.specs.declared.LineStop.TheVariants.{Memory, StoreFault, SinkFault, Refused}
 use Rattle.blk_session.specs.declared.errors.LineError.TheVariants.{Memory as MemoryThere}
 use Rattle.blk_session.specs.declared.errors.LineError.TheVariants.{StoreFault as StoreFaultThere}
 use Rattle.blk_session.specs.declared.errors.LineError.TheVariants.{Refused as RefusedThere}
+use Rattle.blk_session.specs.Asked.{lines_ask}
 use Rattle.blk_session.specs.Lines.{LineDone, LineFails}
 
 -- the store and what the output was given at one moment, each as far as it is told, with the counts of faults
@@ -52,3 +55,11 @@ LineStops (Refused n cause) layout old line number a b =
 pub record Later (a b : Seen) : Type 0 where
   pub store : a.store_faults ≤ b.store_faults
   pub sink : a.sink_faults ≤ b.sink_faults
+
+-- some first lines were done, and the next is to load the store, which holds what these lines leave and was asked to
+-- write as often as they ask
+pub record StopsLoading (layout : BlkLayout) (bytes : List ℕ) (lines : List Line) (before now : Device) : Type 0 where
+  pub count : ℕ
+  pub next : slice_get lines count ≡ Some Boot
+  pub holds : now.holds ≡ Some (blk_ran layout bytes (take count lines)).session.store
+  pub asked : now.writes ≡ further (lines_ask layout bytes (take count lines)) before.writes

@@ -1,14 +1,15 @@
 // The lines of a script, in order.
-ghost use Rattle.std.specs.Prelude.{◌≡◌, ℕ, ◌<◌, ◌≤◌, ◌^◌, List, length, IfOk, IfSome, MatchResult};
+ghost use Rattle.std.specs.Prelude.{◌≡◌, ◌⊎◌, ℕ, ◌<◌, ◌≤◌, ◌^◌, List, length, OnOk, IfOk, IfSome, MatchResult};
 ghost use Rattle.blk_spec.specs.Layout.{IsLayout};
-ghost use Rattle.blk_spec.specs.Answers.{HasRoom, device};
+ghost use Rattle.blk_spec.specs.Answers.{HasRoom, device, further};
 ghost use Rattle.grammar_spec.specs.Printed.{HasFields, AllHaveFields};
 ghost use Rattle.script_spec.specs.BlkScripts.{WriteNothing};
 ghost use Rattle.script_spec.specs.BlkStops.{EndsAt};
 ghost use Rattle.script_spec.specs.declared.LineStop.TheVariants.{StoreFault, SinkFault};
 ghost use Rattle.script_spec.specs.Playing.{KeptUnless, PutsText, BlkPlayCaused};
+ghost use Rattle.blk_session.specs.Asked.{lines_ask};
 ghost use Rattle.blk_session.specs.Stops.{stop_of};
-ghost use Rattle.blk_session.specs.Playing.{seen, Puts, LineStops, Later};
+ghost use Rattle.blk_session.specs.Playing.{seen, Puts, LineStops, Later, StopsLoading};
 
 use crate::errors::LineError;
 use crate::lines::do_line;
@@ -95,6 +96,12 @@ pub fn play<S: Store, O: Sink>(
         → EndsAt result layout bytes lines.now (O.given out.old) (O.given out.new) (S.holds store.new) }
     ensures unwritten { (bytes : List ℕ) → S.holds store.old ≡ Some bytes → WriteNothing layout bytes lines.now
         → S.writes store.new ≡ S.writes store.old }
+    ensures asked { OnOk result ((bytes : List ℕ) → S.holds store.old ≡ Some bytes
+        → S.writes store.new ≡ further (lines_ask layout bytes lines.now) (S.writes store.old)) }
+    ensures unread { let before = device (S.holds store.old) (S.writes store.old) (S.read_faults store.old) in
+        let now = device (S.holds store.new) (S.writes store.new) (S.read_faults store.new) in
+        (bytes : List ℕ) → before.holds ≡ Some bytes
+        → (now.read_faults ≡ before.read_faults) ⊎ StopsLoading layout bytes lines.now before now }
 {
     let mut blk: Option<Blk> = None;
     for (i, line) in lines.iter().enumerate() {

@@ -40,7 +40,7 @@ long_lines : (layout : BlkLayout) (bytes script : List ℕ) → layout.total ≤
     → blk_lines layout bytes script ≡ Err TooLong
 long_lines layout bytes script room h = rw (nat_lt-false room, nat_lt-true h) refl
 
-lines_read : (layout : BlkLayout) (bytes script : List ℕ) (r : Result (List Line) ℕ) → layout.total ≤ length bytes
+pub lines_read : (layout : BlkLayout) (bytes script : List ℕ) (r : Result (List Line) ℕ) → layout.total ≤ length bytes
     → (length script ≤ script_limit) × (script_of script ≡ r) → blk_lines layout bytes script ≡ lines_or_bad r
 lines_read layout bytes script r room h = rw (nat_lt-false room, nat_lt-false h.0, h.1) refl
 

@@ -19,3 +19,5 @@ pub mod RingTexts
 pub mod MoveReads
 pub mod Due
 pub mod ImageFaults
+pub mod Unread
+pub mod Taking

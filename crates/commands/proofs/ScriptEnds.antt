@@ -106,7 +106,7 @@ play_left layout image lines session given given' text last p none same = record
 pub play_stopped : (stop : LineStop) (layout : List Zone) (image : List ℕ) (lines : List Line)
     (given given' : Option (List ℕ)) (h h' : ℕ) → PlayStop stop layout image lines given given' h h'
     → LinesLeave (wanted_script layout image (Ok lines)) given given' h h' (Err (stop_of stop))
-play_stopped MemoryThere layout image lines given given' h h' p = p
+play_stopped MemoryThere layout image lines given given' h h' p = record { count = p.count; bytes = p.bytes }
 play_stopped StoreFault layout image lines given given' h h' p = absurd p
 play_stopped SinkFaultThere layout image lines given given' h h' p = p
 play_stopped (RefusedThere n cause) layout image lines given given' h h' p =

@@ -6,5 +6,7 @@ pub mod Moves
 pub mod Headline
 pub mod Due
 pub mod Asked
+pub mod Unread
+pub mod Taking
 pub mod Runs
 pub mod Scripts

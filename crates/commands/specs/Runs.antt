@@ -8,6 +8,7 @@ use Rattle.command_spec.specs.Complete.{Completes}
 use Rattle.commands.specs.Headline.{RunReads}
 use Rattle.commands.specs.Due.{LastLine}
 use Rattle.commands.specs.Asked.{ImageFails}
+use Rattle.commands.specs.Taking.{PlanTook}
 
 -- from one moment of the outside to another, with this status
 pub record Runs (words : List Text) (a b : Outside) (status : ℕ) : Type 0 where
@@ -17,6 +18,8 @@ pub record Runs (words : List Text) (a b : Outside) (status : ℕ) : Type 0 wher
   pub writes : PlanWrites (plan_of words) a b status
   -- a script or a move whose image fails behind its text has asked for a write
   pub image_fails : ImageFails (plan_of words) a b status
+  -- a script on the ram store is out of memory before its first text, or at a line that takes memory
+  pub takes : PlanTook (plan_of words) a b status
   -- a fault that decides nothing is none
   pub faults : NoOtherFault a b status
   -- the status, the text and the image that are wanted, or why not

@@ -4,6 +4,7 @@ use Rattle.std.specs.Global.{Vec}
 use Rattle.std.specs.Io.KnownBytes.{Appends}
 use Rattle.outside.specs.Outside.{Rose}
 use Rattle.ramoops_layout.specs.Laid.{zones_of}
+use Rattle.blk_spec.specs.Answers.{Device}
 use Rattle.grammar_spec.specs.Fields.{Text}
 use Rattle.grammar_spec.specs.declared.line.Line.{Line}
 use Rattle.script_spec.specs.Texts.{whole}
@@ -16,7 +17,9 @@ use Rattle.command_spec.specs.declared.Stop.TheVariants.{Memory, SinkFault, Refu
 use Rattle.command_line.specs.Words.{plan_for, CanShareIn}
 use Rattle.command_line.specs.Ended.{WorkDone}
 use Rattle.commands.specs.Asked.{FailsAt}
+use Rattle.commands.specs.Unread.{UnwrittenOrRead}
 use Rattle.commands.specs.Due.{PutsBefore}
+use Rattle.commands.specs.Taking.{CommandTakes}
 use Rattle.commands.specs.declared.scripts.Session.{Session}
 use Rattle.commands.specs.declared.scripts.Session.TheVariants.{Ram, Shared}
 
@@ -61,7 +64,10 @@ IsSilent (Shared booted layout) given given' = given' ≡ given
 
 -- ---- the run
 
-pub record ScriptDone (plan : RamPlan) (a b : Outside) (e : End) : Type 0 where
+-- with the image before and after it
+pub record ScriptDone (plan : RamPlan) (a b : Outside) (before now : Device) (e : End) : Type 0 where
   pub work : WorkDone (Ok (OfRam plan)) a b e
   pub asked : FailsAt a b e
+  pub unread : UnwrittenOrRead before now
   pub put : PutsBefore plan.command a.given b.given e
+  pub takes : CommandTakes plan.command plan a b e

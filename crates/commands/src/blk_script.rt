@@ -1,10 +1,12 @@
 // A script on the block store.
 ghost use Rattle.std.specs.Prelude.{Ok};
 ghost use Rattle.blk_spec.specs.Layout.{IsLayout};
+ghost use Rattle.blk_spec.specs.Answers.{device};
 ghost use Rattle.command_spec.specs.Commands.{OfBlk};
 ghost use Rattle.command_spec.specs.Answers.{outside};
 ghost use Rattle.command_line.specs.Ended.{WorkDone};
 ghost use Rattle.commands.specs.Due.{PutsLines};
+ghost use Rattle.commands.specs.Unread.{PlanUnread};
 
 use blk_session::play;
 use command_line::{Stop, end_of, read_lines};
@@ -27,6 +29,9 @@ pub fn run_blk_script<S: Source, M: Store, O: Sink>(
         let after = outside (S.left script.new) (S.faults script.new) (M.holds image.new)
         (M.faults image.new) (M.writes image.new) (O.given out.new) (O.faults out.new) in
         WorkDone (Ok (OfBlk layout)) before after result }
+    ensures unread { let before = device (M.holds image.old) (M.writes image.old) (M.read_faults image.old) in
+        let now = device (M.holds image.new) (M.writes image.new) (M.read_faults image.new) in
+        PlanUnread (Ok (OfBlk layout)) (S.left script.old) before now }
     ensures put { PutsLines (O.given out.old) (O.given out.new) result }
 {
     match check_size(image, layout.total) {

@@ -49,6 +49,7 @@ pub fn blank<M: Store>(image: &mut M, mem: u32) -> Result<(), Stop>
     ensures asks { KeptAt (M.writes image.old) (M.writes image.new) result }
     ensures asked { FailsAsked (M.writes image.old) (M.writes image.new) result }
     ensures image_count { KeptUnless Stop.ImageFault result (M.faults image.old) (M.faults image.new) }
+    ensures unread { M.read_faults image.new ≡ M.read_faults image.old }
     ensures can { IsAmong (ram_statuses Blank) (status_of result) }
     ensures ended { (given : Option (List ℕ)) → EndedAt (leaves (replicate mem 0)) given given (M.holds image.old)
         (M.holds image.new) result }

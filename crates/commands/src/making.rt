@@ -1,5 +1,5 @@
 // The image of a generated session.
-ghost use Rattle.std.specs.Prelude.{◌≤◌, ℕ, List, Option};
+ghost use Rattle.std.specs.Prelude.{◌≡◌, ◌≤◌, ℕ, List, Option};
 ghost use Rattle.command_spec.specs.Commands.{Make};
 ghost use Rattle.command_spec.specs.Answers.{outside};
 ghost use Rattle.script_spec.specs.Playing.{KeptUnless};
@@ -29,6 +29,7 @@ pub fn make<M: Store, O: Sink>(
     ensures asks { KeptAt (M.writes image.old) (M.writes image.new) result }
     ensures asked { FailsAsked (M.writes image.old) (M.writes image.new) result }
     ensures image_count { KeptUnless Stop.ImageFault result (M.faults image.old) (M.faults image.new) }
+    ensures unread { M.read_faults image.new ≡ M.read_faults image.old }
     ensures out_count { KeptUnless Stop.SinkFault result (O.faults out.old) (O.faults out.new) }
     ensures ended { (left : Option (List ℕ)) (f : ℕ) → MakeEnds (plan_for (Make n) layout)
         (outside left f (M.holds image.old) (M.faults image.old) (M.writes image.old)

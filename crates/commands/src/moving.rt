@@ -1,5 +1,6 @@
 // The move of an image to other parameters.
 ghost use Rattle.std.specs.Prelude.{◌≡◌, ◌≤◌, ℕ, List, Option, IfOk};
+ghost use Rattle.blk_spec.specs.Answers.{device};
 ghost use Rattle.ramoops_layout.specs.Laid.{params_of, zones_of};
 ghost use Rattle.machine_spec.specs.Moved.{fitting, moved as moved_state};
 ghost use Rattle.prz_read.specs.Saving.{saved};
@@ -11,6 +12,7 @@ ghost use Rattle.script_spec.specs.Playing.{KeptUnless};
 ghost use Rattle.command_line.specs.Ended.{CausedAt, KeptAt, ImageEnds};
 ghost use Rattle.commands.specs.Due.{PutsFirst};
 ghost use Rattle.commands.specs.Asked.{FailsAt};
+ghost use Rattle.commands.specs.Unread.{UnwrittenOrRead};
 
 use crate::records::read_logs;
 use command_line::Stop;
@@ -58,6 +60,9 @@ pub fn move_image<M: Store, O: Sink>(
         (O.given out.old) (O.faults out.old))
         (outside left f (M.holds image.new) (M.faults image.new) (M.writes image.new)
         (O.given out.new) (O.faults out.new)) result }
+    ensures unread { let before = device (M.holds image.old) (M.writes image.old) (M.read_faults image.old) in
+        let now = device (M.holds image.new) (M.writes image.new) (M.read_faults image.new) in
+        UnwrittenOrRead before now }
     ensures put { PutsFirst (O.given out.old) (O.given out.new) result }
 {
     let size = from.mem();

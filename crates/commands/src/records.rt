@@ -1,5 +1,6 @@
 // The records of an image: all of them listed, and one extracted or erased.
-ghost use Rattle.std.specs.Prelude.{◌≡◌, ◌≤◌, ℕ, List, Option, IfOk, IfErr};
+ghost use Rattle.std.specs.Prelude.{◌≡◌, ◌≤◌, ℕ, List, Option, OnOk, IfOk, IfErr};
+ghost use Rattle.blk_spec.specs.Answers.{device};
 ghost use Rattle.ramoops_layout.specs.Laid.{params_of, zones_of};
 ghost use Rattle.command_spec.specs.Commands.{ListRecords, Extract, Erase};
 ghost use Rattle.command_spec.specs.Answers.{outside};
@@ -9,6 +10,7 @@ ghost use Rattle.commands.specs.Due.{PutsNone};
 ghost use Rattle.script_spec.specs.Playing.{KeptUnless};
 ghost use Rattle.image_file.specs.Loading.{LoadStop};
 ghost use Rattle.commands.specs.Records.{SavedFrom, stop_for};
+ghost use Rattle.commands.specs.Unread.{UnwrittenOrRead};
 
 use crate::stores::{boot_store, fresh_store};
 use command_line::Stop;
@@ -41,6 +43,7 @@ pub fn read_logs<M: Load>(alloc: Global, layout: Layout, image: &mut M) -> Resul
     ensures same { M.holds image.new ≡ M.holds image.old }
     ensures unwritten { M.writes image.new ≡ M.writes image.old }
     ensures image_count { KeptUnless Stop.ImageFault result (M.faults image.old) (M.faults image.new) }
+    ensures read_count { OnOk result (M.read_faults image.new ≡ M.read_faults image.old) }
     ensures later { M.faults image.old ≤ M.faults image.new }
 {
     let bytes = match load(alloc, image, layout.mem()) {
@@ -135,6 +138,9 @@ pub fn erase<M: Store>(alloc: Global, layout: Layout, name: &str, image: &mut M)
     ensures kept { KeptAt (M.holds image.old) (M.holds image.new) result }
     ensures asks { KeptAt (M.writes image.old) (M.writes image.new) result }
     ensures image_count { KeptUnless Stop.ImageFault result (M.faults image.old) (M.faults image.new) }
+    ensures unread { let before = device (M.holds image.old) (M.writes image.old) (M.read_faults image.old) in
+        let now = device (M.holds image.new) (M.writes image.new) (M.read_faults image.new) in
+        UnwrittenOrRead before now }
     ensures ended { (left given : Option (List ℕ)) (f h : ℕ)
         → RamImageEnds (plan_for (Erase name.now) layout)
         (outside left f (M.holds image.old) (M.faults image.old) (M.writes image.old) given h)

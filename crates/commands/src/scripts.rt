@@ -1,13 +1,16 @@
 // A script on an image: one frame, whatever its lines are done on.
 ghost use Rattle.std.specs.Prelude.{◌≡◌, ◌≤◌, ◌<◌, ◌^◌, length, vec_len, Ok, MatchResult};
+ghost use Rattle.std.specs.Result.{IfErr};
 ghost use Rattle.outside.specs.Outside.{HasCause, AppendsFront};
 ghost use Rattle.std.specs.Io.KnownBytes.{Appends};
+ghost use Rattle.blk_spec.specs.Answers.{device};
 ghost use Rattle.ramoops_layout.specs.Laid.{params_of, zones_of};
 ghost use Rattle.grammar_spec.specs.Printed.{AllHaveFields};
 ghost use Rattle.command_spec.specs.Commands.{wanted_script, mem_of};
 ghost use Rattle.command_spec.specs.Answers.{outside};
 ghost use Rattle.script_spec.specs.Playing.{KeptUnless};
 ghost use Rattle.commands.specs.Scripts.{session_plan, session_wants, CanRun, LinesLeave, IsSilent, ScriptDone};
+ghost use Rattle.commands.specs.Taking.{SessionTakes};
 
 use crate::sharing::share;
 use crate::stores::fresh_store;
@@ -53,6 +56,8 @@ fn play_lines<O: Sink>(
     requires few { length lines < 2 ^ 32 }
     ensures left { LinesLeave (wanted_script (zones_of layout) image.items (Ok lines)) (O.given out.old)
         (O.given out.new) (O.faults out.old) (O.faults out.new) result }
+    ensures takes { IfErr result (λ stop. SessionTakes (Session.Ram layout) image.items lines (O.given out.old)
+        (O.given out.new) stop) }
     ensures counts { KeptUnless Stop.SinkFault result (O.faults out.old) (O.faults out.new) }
     ensures later { O.faults out.old ≤ O.faults out.new }
 {
@@ -80,6 +85,8 @@ fn do_lines<O: Sink>(
     requires few { length lines < 2 ^ 32 }
     ensures left { LinesLeave (session_wants session image.items (Ok lines)) (O.given out.old) (O.given out.new)
         (O.faults out.old) (O.faults out.new) result }
+    ensures takes { IfErr result (λ stop. SessionTakes session image.items lines (O.given out.old)
+        (O.given out.new) stop) }
     ensures silent { IsSilent session (O.given out.old) (O.given out.new) }
     ensures counts { KeptUnless Stop.SinkFault result (O.faults out.old) (O.faults out.new) }
     ensures later { O.faults out.old ≤ O.faults out.new }
@@ -117,7 +124,9 @@ pub fn run_script<S: Source, M: Store, O: Sink>(
         (M.faults image.old) (M.writes image.old) (O.given out.old) (O.faults out.old) in
         let after = outside (S.left script.new) (S.faults script.new) (M.holds image.new)
         (M.faults image.new) (M.writes image.new) (O.given out.new) (O.faults out.new) in
-        ScriptDone (session_plan session) before after result }
+        let stood = device (M.holds image.old) (M.writes image.old) (M.read_faults image.old) in
+        let stands = device (M.holds image.new) (M.writes image.new) (M.read_faults image.new) in
+        ScriptDone (session_plan session) before after stood stands result }
 {
     let bytes = match load(alloc, image, session.mem()) {
         Ok(bytes) => bytes,

@@ -1,5 +1,5 @@
 // The store of an image.
-ghost use Rattle.std.specs.Prelude.{◌≡◌, ◌≤◌, vec_len, IfOk, IfErr};
+ghost use Rattle.std.specs.Prelude.{◌≡◌, ◌≤◌, vec_len, OnOk, IfOk, IfErr};
 ghost use Rattle.ramoops_layout.specs.Laid.{params_of, zones_of};
 ghost use Rattle.ram_session.specs.Playing.{StandsFresh};
 ghost use Rattle.script_spec.specs.Playing.{KeptUnless};
@@ -39,6 +39,7 @@ pub fn boot_store<M: Load>(
     ensures same { M.holds image.new ≡ M.holds image.old }
     ensures unwritten { M.writes image.new ≡ M.writes image.old }
     ensures image_count { KeptUnless Stop.ImageFault result (M.faults image.old) (M.faults image.new) }
+    ensures read_count { OnOk result (M.read_faults image.new ≡ M.read_faults image.old) }
     ensures later { M.faults image.old ≤ M.faults image.new }
 {
     let bytes = match load(alloc, image, layout.mem()) {

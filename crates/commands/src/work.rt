@@ -1,6 +1,7 @@
 // The run of a command.
 ghost use Rattle.std.specs.Prelude.{◌≡◌, ◌≤◌, Ok};
 ghost use Rattle.outside.specs.Outside.{Rose};
+ghost use Rattle.blk_spec.specs.Answers.{device};
 ghost use Rattle.command_spec.specs.Commands.{OfRam, plan_of};
 ghost use Rattle.command_spec.specs.Answers.{outside};
 ghost use Rattle.command_line.specs.Words.{plan_for, ram_command_seen, texts};
@@ -8,6 +9,8 @@ ghost use Rattle.command_line.specs.Ended.{WorkDone};
 ghost use Rattle.commands.specs.Runs.{Runs};
 ghost use Rattle.commands.specs.Due.{PutsBefore, PutsByPlan};
 ghost use Rattle.commands.specs.Asked.{PlanFails};
+ghost use Rattle.commands.specs.Unread.{UnwrittenOrRead, PlanUnread};
+ghost use Rattle.commands.specs.Taking.{PlanTakes};
 
 use crate::blk_script::run_blk_script;
 use crate::images::{blank, show_layout};
@@ -41,7 +44,15 @@ fn do_command<S: Source, M: Store, O: Sink>(
         let after = outside (S.left script.new) (S.faults script.new) (M.holds image.new)
         (M.faults image.new) (M.writes image.new) (O.given out.new) (O.faults out.new) in
         PlanFails (Ok (OfRam (plan_for (ram_command_seen command.entry) layout))) before after result }
+    ensures unread { let before = device (M.holds image.old) (M.writes image.old) (M.read_faults image.old) in
+        let now = device (M.holds image.new) (M.writes image.new) (M.read_faults image.new) in
+        UnwrittenOrRead before now }
     ensures put { PutsBefore (ram_command_seen command.entry) (O.given out.old) (O.given out.new) result }
+    ensures takes { let before = outside (S.left script.old) (S.faults script.old) (M.holds image.old)
+        (M.faults image.old) (M.writes image.old) (O.given out.old) (O.faults out.old) in
+        let after = outside (S.left script.new) (S.faults script.new) (M.holds image.new)
+        (M.faults image.new) (M.writes image.new) (O.given out.new) (O.faults out.new) in
+        PlanTakes (Ok (OfRam (plan_for (ram_command_seen command.entry) layout))) before after result }
 {
     match command {
         RamCommand::Run => run_script(alloc, Session::Ram(layout), script, image, out),
@@ -74,7 +85,15 @@ fn do_work<S: Source, M: Store, O: Sink>(
         let after = outside (S.left script.new) (S.faults script.new) (M.holds image.new)
         (M.faults image.new) (M.writes image.new) (O.given out.new) (O.faults out.new) in
         PlanFails (plan_of (texts words.now)) before after result }
+    ensures unread { let before = device (M.holds image.old) (M.writes image.old) (M.read_faults image.old) in
+        let now = device (M.holds image.new) (M.writes image.new) (M.read_faults image.new) in
+        PlanUnread (plan_of (texts words.now)) (S.left script.old) before now }
     ensures put { PutsByPlan (plan_of (texts words.now)) (O.given out.old) (O.given out.new) result }
+    ensures takes { let before = outside (S.left script.old) (S.faults script.old) (M.holds image.old)
+        (M.faults image.old) (M.writes image.old) (O.given out.old) (O.faults out.old) in
+        let after = outside (S.left script.new) (S.faults script.new) (M.holds image.new)
+        (M.faults image.new) (M.writes image.new) (O.given out.new) (O.faults out.new) in
+        PlanTakes (plan_of (texts words.now)) before after result }
 {
     match read_plan(alloc, words) {
         Ok(Plan::Ram(command, layout)) => do_command(alloc, command, layout, script, image, out),
@@ -110,6 +129,9 @@ pub fn run<S: Source, M: Store, O: Sink>(
         let after = outside (S.left script.new) (S.faults script.new) (M.holds image.new)
         (M.faults image.new) (M.writes image.new) (O.given out.new) (O.faults out.new) in
         Runs (texts words.now) before after result }
+    ensures unread { let before = device (M.holds image.old) (M.writes image.old) (M.read_faults image.old) in
+        let now = device (M.holds image.new) (M.writes image.new) (M.read_faults image.new) in
+        PlanUnread (plan_of (texts words.now)) (S.left script.old) before now }
 {
     later_boot_lists_crash(); // a law, for the proof of what boots list of crashes
     let end = do_work(alloc, words, script, image, out);

@@ -9,21 +9,24 @@ use Rattle.death_spec.specs.declared.Mark.{Mark}
 use Rattle.death_spec.specs.Lines.{lines_from, kind}
 use Rattle.death_spec.specs.Telling.{last_of, opens, open_behind, last_opening}
 use Rattle.death_spec.specs.declared.Span.{Span}
-use Rattle.death_spec.specs.Reports.{locked_of, ends_below, report, first_where}
+use Rattle.death_spec.specs.Reports.{stuck_of, ends_below, begin_of, report, first_where}
 
 -- the lines up to the end of a report
 abbrev pub in_report : List ℕ → (Option Mark → Line → Bool) → List Line → List Line
 in_report text ends lines = take_while (λ line. not (ends (kind text line) line)) lines
 
 -- the report of a line, by what that is
-pub report_by : (text : List ℕ) (p : Line → Bool) (telling : Line) (head : Option Mark) (locked : Option Span)
-    → head ≡ kind text telling → locked ≡ locked_of text telling
+pub report_by : (text : List ℕ) (p : Line → Bool) (telling : Line) (head : Option Mark) (stuck : Option Span) (at : ℕ)
+    → head ≡ kind text telling → stuck ≡ stuck_of text telling → at ≡ begin_of text telling
     → first_where p (report text telling)
-    ≡ first_where p (in_report text (ends_below text head locked) (lines_from text telling.next))
-report_by text p telling head locked is_head is_locked =
-    ap (λ h. first_where p (in_report text (ends_below text h (locked_of text telling)) (lines_from text telling.next)))
+    ≡ first_where p (in_report text (ends_below text head stuck) (lines_from text at))
+report_by text p telling head stuck at is_head is_stuck is_at =
+    ap (λ h. first_where p
+    (in_report text (ends_below text h (stuck_of text telling)) (lines_from text (begin_of text telling))))
     (sym is_head)
-    ∙ ap (λ l. first_where p (in_report text (ends_below text head l) (lines_from text telling.next))) (sym is_locked)
+    ∙ ap (λ s. first_where p (in_report text (ends_below text head s) (lines_from text (begin_of text telling))))
+    (sym is_stuck)
+    ∙ ap (λ a. first_where p (in_report text (ends_below text head stuck) (lines_from text a))) (sym is_at)
 
 pub or_none : {X : Type 0} (x : Option X) → option_or x None ≡ x
 or_none None = refl

@@ -55,10 +55,16 @@ pub fn a_lockup_names_its_processor()
         ≡ Some (Some (record { start = 53; end = 55 })) }
 {}
 
-/// The report of a lockup has nothing that another processor wrote, and that of a task that hangs nothing of another.
+/// In these logs another processor, or another task, writes below the telling line, and nothing of it is named.
 pub fn reports_of_others_are_left_out()
     ensures processor { option_map (λ d. d.task)
         (death_of (codes "Watchdog detected hard LOCKUP on cpu 1" ++ 10 ∷ codes "CPU: 0 PID: 9")) ≡ Some None }
+    ensures before { option_map (λ d. d.function)
+        (death_of (codes "Watchdog detected hard LOCKUP on cpu 1" ++ 10 ∷ codes "RIP: 0010:b+0x1" ++ 10
+        ∷ codes "CPU: 1 PID: 9")) ≡ Some None }
+    ensures processors { option_map (λ d. d.function)
+        (death_of (codes "INFO: task a:1 blocked for more than 5" ++ 10 ∷ codes "CPU: 0 PID: 9" ++ 10
+        ∷ codes " b+0x1")) ≡ Some None }
     ensures task { option_map (λ d. d.function)
         (death_of (codes "INFO: task a:1 blocked for more than 5" ++ 10
         ∷ codes "INFO: task a:1 is blocked on a mutex" ++ 10 ∷ codes " b+0x1")) ≡ Some None }

@@ -3,13 +3,15 @@ ghost use Rattle.std.specs.Prelude.{◌≡◌, ◌≤◌, ◌<◌, ◌+◌, ◌|
 ghost use Rattle.std.specs.Prelude.{IfOk, IfSome, Some, None, false};
 ghost use Rattle.std.specs.Option.{option_or, option_map, option_map_or};
 ghost use Rattle.death_spec.specs.Marks.{is_blank};
-ghost use Rattle.death_spec.specs.Lines.{said, is_a};
+ghost use Rattle.death_spec.specs.Lines.{lines_from, said, kind, is_a};
 ghost use Rattle.death_spec.specs.Traces.{is_entry, name_in};
 ghost use Rattle.death_spec.specs.Reports.{report, first_where, first_in, own_in, trace_in, span, number_end, task_at};
 ghost use Rattle.death_spec.specs.Reports.{task_end, cpu_in, task_in, kernel_in, hung_in, task_of, named_from, place_end};
 ghost use Rattle.death_spec.specs.Reports.{name_from, blamed_at, place_in, entry_end, entry_in, traced_in, is_next_at};
 ghost use Rattle.death_spec.specs.Reports.{own_kernel_in, kernel_of, message_of, is_lockup, locked_at, locked_in};
-ghost use Rattle.death_spec.specs.Reports.{locked_of, cpu_of, differ, is_of_other, ends_below, sure, by_call, of_place};
+ghost use Rattle.death_spec.specs.Reports.{listed_end, listed_in, stuck_of, cpu_of, are_same, is_own_number};
+ghost use Rattle.death_spec.specs.Reports.{is_other_number, is_own, is_of_other, ends_below, below, begin_of};
+ghost use Rattle.death_spec.specs.Reports.{sure, by_call, of_place};
 ghost use Rattle.death_spec.specs.Reports.{of_calls, function_in, death_with, death_at};
 ghost use Rattle.death_spec.specs.declared.Mark.TheVariants.{HungTask, Processor, Place, Link, Own};
 
@@ -78,12 +80,36 @@ fn locked_in(text: &[u8], line: Line) -> Option<Span>
     span(line, from, run_from(words, from, Class::Digit))
 }
 
-// The processor that a lockup's line names.
-fn locked_of(text: &[u8], telling: Line) -> Option<Span>
-    ensures { result ≡ locked_of text.now telling }
+fn listed_end(words: &[u8]) -> usize
+    ensures end { result ≡ listed_end words.now }
+    ensures within { result ≤ length words.now }
 {
-    if is_lockup(kind(text, telling)) {
+    run_from(words, front_len(words), Class::Digit)
+}
+
+// The first processor that a stall lists, in the line at a place.
+fn listed_at(text: &[u8], at: usize) -> Option<Span>
+    ensures { result ≡ listed_in text.now (lines_from text.now at) }
+{
+    let line = next_line(text, at)?;
+    let words = said(text, line);
+    let end = listed_end(words);
+    if byte_at(words, end) == b'-' {
+        span(line, front_len(words), end)
+    } else {
+        None
+    }
+}
+
+// The processor that is stuck, if the report names it.
+fn stuck_of(text: &[u8], telling: Line) -> Option<Span>
+    ensures { result ≡ stuck_of text.now telling }
+{
+    let kind = kind(text, telling);
+    if is_lockup(kind) {
         locked_in(text, telling)
+    } else if is_mark(kind, Mark::Stall) {
+        listed_at(text, telling.next)
     } else {
         None
     }
@@ -93,44 +119,99 @@ fn locked_of(text: &[u8], telling: Line) -> Option<Span>
 fn cpu_of(text: &[u8], telling: Line, processor: Option<Line>) -> Option<Span>
     ensures { result ≡ cpu_of text.now telling processor }
 {
-    locked_of(text, telling).or(cpu_in(text, processor))
+    stuck_of(text, telling).or(cpu_in(text, processor))
 }
 
-// Whether both are there, and their bytes differ.
-fn differ(text: &[u8], a: Option<Span>, b: Option<Span>) -> bool
-    ensures { result ≡ differ text.now a b }
+fn are_same(text: &[u8], a: Span, b: Span) -> bool
+    ensures { result ≡ are_same text.now a b }
 {
-    match (a, b) {
-        (Some(a), Some(b)) => part(text, a.start, a.end) != part(text, b.start, b.end),
+    part(text, a.start, a.end) == part(text, b.start, b.end)
+}
+
+fn is_own_number(text: &[u8], stuck: Span, number: Option<Span>) -> bool
+    ensures { result ≡ is_own_number text.now stuck number }
+{
+    match number {
+        Some(number) => are_same(text, stuck, number),
+        None => false,
+    }
+}
+
+fn is_other_number(text: &[u8], stuck: Option<Span>, number: Option<Span>) -> bool
+    ensures { result ≡ is_other_number text.now stuck number }
+{
+    match (stuck, number) {
+        (Some(stuck), Some(number)) => !are_same(text, stuck, number),
         _ => false,
     }
+}
+
+// Whether a line is the `CPU: ` of the processor that is stuck.
+fn is_own(text: &[u8], stuck: Span, mark: Option<Mark>, line: Line) -> bool
+    ensures { result ≡ is_own text.now stuck mark line }
+{
+    is_mark(mark, Mark::Processor) && is_own_number(text, stuck, cpu_in(text, Some(line)))
 }
 
 // Whether a line begins what is told of another task, or of another processor than the one that is stuck.
 fn is_of_other(
     text: &[u8],
     head: Option<Mark>,
-    locked: Option<Span>,
+    stuck: Option<Span>,
     mark: Option<Mark>,
     line: Line,
 ) -> bool
-    ensures { result ≡ is_of_other text.now head locked mark line }
+    ensures { result ≡ is_of_other text.now head stuck mark line }
 {
-    (is_mark(head, Mark::HungTask) && is_mark(mark, Mark::OnTask))
-        || (is_mark(mark, Mark::Processor) && differ(text, locked, cpu_in(text, Some(line))))
+    let is_processor = is_mark(mark, Mark::Processor);
+    (is_mark(head, Mark::HungTask) && (is_mark(mark, Mark::OnTask) || is_processor))
+        || (is_processor && is_other_number(text, stuck, cpu_in(text, Some(line))))
 }
 
 // Whether a line ends the report below a head.
 fn ends_below(
     text: &[u8],
     head: Option<Mark>,
-    locked: Option<Span>,
+    stuck: Option<Span>,
     mark: Option<Mark>,
     line: Line,
 ) -> bool
-    ensures { result ≡ ends_below text.now head locked mark line }
+    ensures { result ≡ ends_below text.now head stuck mark line }
 {
-    ends_report(is_of_oops(head), mark) || is_of_other(text, head, locked, mark, line)
+    ends_report(is_of_oops(head), mark) || is_of_other(text, head, stuck, mark, line)
+}
+
+// The first `CPU: ` line of the processor that is stuck, up to the next report.
+fn first_own(text: &[u8], telling: Line, stuck: Span) -> Option<Line>
+    ensures { result ≡ first_where (λ line. is_own text.now stuck (kind text.now line) line) (below text.now telling) }
+{
+    let firsts = firsts();
+    let is_oops = is_of_oops(kind_by(&firsts, text, telling));
+    let mut at = telling.next;
+    'lines: while let Some(line) = next_line(text, at) {
+        let mark = kind_by(&firsts, text, line);
+        if ends_report(is_oops, mark) {
+            return None;
+        }
+        if is_own(text, stuck, mark, line) {
+            return Some(line);
+        }
+        at = line.next;
+    }
+    None
+}
+
+// Where the report begins.
+fn begin_of(text: &[u8], telling: Line) -> usize
+    ensures { result ≡ begin_of text.now telling }
+{
+    match stuck_of(text, telling) {
+        Some(stuck) => match first_own(text, telling, stuck) {
+            Some(line) => line.start,
+            None => telling.next,
+        },
+        None => telling.next,
+    }
 }
 
 /// The lines of a report that name something, each the first of its kind.
@@ -165,16 +246,16 @@ fn heads(text: &[u8], telling: Line) -> Named
 {
     let firsts = firsts();
     let head = kind_by(&firsts, text, telling);
-    let locked = locked_of(text, telling);
+    let stuck = stuck_of(text, telling);
     let mut processor = None;
     let mut place = None;
     let mut link = None;
     let mut entry = None;
     let mut own = None;
-    let mut at = telling.next;
+    let mut at = begin_of(text, telling);
     'lines: while let Some(line) = next_line(text, at) {
         let mark = kind_by(&firsts, text, line);
-        if ends_below(text, head, locked, mark, line) {
+        if ends_below(text, head, stuck, mark, line) {
             break;
         }
         let is_processor = is_mark(mark, Mark::Processor);

@@ -1,5 +1,5 @@
 -- The lines of a crash log, as printk writes them (kernel/printk/printk.c): `<4>[    2.973642][   T12] text`, perhaps
--- behind what a journal, a syslog or a serial capture wrote before them
+-- after what a journal, a syslog or a serial capture wrote before them
 use Rattle.std.specs.Prelude.{ℕ, ◌+◌, ◌-◌, ◌*◌, ◌%◌, Bool, true, false, ◌&&◌, ◌||◌, ◌==◌, nat_eq, nat_lt, nat_le}
 use Rattle.std.specs.Prelude.{if◌then◌else◌, List, [], codes}
 use Rattle.std.specs.Prelude.{◌∷◌, length, take, drop, slice_index, Option, Some, None}
@@ -96,7 +96,7 @@ is_kernels text line =
 abbrev pub said : List ℕ → Line → List ℕ
 said text line = if is_kernels text line then part text line.text line.end else []
 
--- a processor's number can stand before the words that count, with a blank behind it on MIPS, else a colon and a blank:
+-- a processor's number can stand before the words that count, with a blank after it on MIPS, else a colon and a blank:
 -- `CPU 0 Unable to handle kernel paging request ..`, `watchdog: CPU0: Watchdog detected hard LOCKUP on cpu 1`
 abbrev pub unnumbered : List ℕ → List ℕ
 unnumbered words =

@@ -8,7 +8,7 @@ use Rattle.death_spec.specs.declared.Mark.TheVariants.{Panic, Fault, SoftLockup,
 use Rattle.death_spec.specs.declared.Mark.TheVariants.{SystemError, Oops, Warning, HungTask, Stall, End, Processor}
 use Rattle.death_spec.specs.declared.Mark.TheVariants.{Place, Link, Kernel, Blocked, Offset, Unsure, Stack, Address}
 use Rattle.death_spec.specs.declared.Mark.TheVariants.{Bare, Numbered, Own, Cut, Message, Locked}
-use Rattle.death_spec.specs.declared.Mark.TheVariants.{OnTask, Caution, Warned}
+use Rattle.death_spec.specs.declared.Mark.TheVariants.{OnTask, Caution, Warned, Listed}
 use Rattle.death_spec.specs.declared.words.TheConstants.{WORDS}
 use Rattle.death_spec.specs.declared.Class.{Class}
 use Rattle.death_spec.specs.declared.Class.TheVariants.{Line, Blank, Word, Name, Symbol, Digit, Number}
@@ -45,6 +45,7 @@ number_of Locked = 25
 number_of OnTask = 26
 number_of Caution = 27
 number_of Warned = 28
+number_of Listed = 29
 
 abbrev pub is_same : Mark → Mark → Bool
 is_same a b = number_of a == number_of b

@@ -11,7 +11,7 @@ use Rattle.death_spec.specs.declared.Class.TheVariants.{Blank, Digit, Name}
 use Rattle.death_spec.specs.declared.Mark.{Mark}
 use Rattle.death_spec.specs.declared.Mark.TheVariants.{Fault, Warning, HungTask, OnTask, Processor, Place, Link, Kernel}
 use Rattle.death_spec.specs.declared.Mark.TheVariants.{Blocked, Offset, Own, Cut, Message, SoftLockup}
-use Rattle.death_spec.specs.declared.Mark.TheVariants.{HardLockup, Locked}
+use Rattle.death_spec.specs.declared.Mark.TheVariants.{HardLockup, Locked, Stall}
 use Rattle.death_spec.specs.declared.Above.{Above}
 use Rattle.death_spec.specs.Marks.{run, is_mark, front_len, begins, place_of, is_blank}
 use Rattle.death_spec.specs.Lines.{lines_from, part, said, kind, is_a}
@@ -46,42 +46,83 @@ locked_in text line =
     span line (locked_at (said text line))
     (locked_at (said text line) + run Digit (drop (locked_at (said text line)) (said text line)))
 
-abbrev pub locked_of : List ℕ → Line → Option Span
-locked_of text telling = if is_lockup (kind text telling) then locked_in text telling else None
+-- the first one that a stall of RCU lists, in the line below its own: `rcu: ⇥1-....: (20999 ticks this GP) idle=..`
+abbrev pub listed_end : List ℕ → ℕ
+listed_end words = front_len words + run Digit (drop (front_len words) words)
+
+abbrev pub listed_in : List ℕ → List Line → Option Span
+listed_in text [] = None
+listed_in text (line ∷ lines) =
+    if slice_index (said text line) (listed_end (said text line)) == 45
+    then span line (front_len (said text line)) (listed_end (said text line)) else None
+
+-- the processor that is stuck, if the report names it
+abbrev pub stuck_of : List ℕ → Line → Option Span
+stuck_of text telling =
+    if is_lockup (kind text telling) then locked_in text telling
+    else if is_mark Stall (kind text telling) then listed_in text (lines_from text telling.next) else None
 
 -- that one, else the report's
 abbrev pub cpu_of : List ℕ → Line → Option Line → Option Span
-cpu_of text telling processor = option_or (locked_of text telling) (cpu_in text processor)
+cpu_of text telling processor = option_or (stuck_of text telling) (cpu_in text processor)
 
 -- ---- the lines of the report
 
--- whether both are there, and their bytes differ
-abbrev pub differ : List ℕ → Option Span → Option Span → Bool
-differ text None b = false
-differ text (Some a) None = false
-differ text (Some a) (Some b) = not (bytes_eq (part text a.start a.end) (part text b.start b.end))
+-- whether two parts have the same bytes
+abbrev pub are_same : List ℕ → Span → Span → Bool
+are_same text a b = bytes_eq (part text a.start a.end) (part text b.start b.end)
 
--- whether a line begins what is told of another: below a hung task the line on its blocker, and below a lockup the
--- `CPU: ` of a processor other than the stuck one
+-- whether a `CPU: ` line is the one of the processor that is stuck, and of another
+abbrev pub is_own_number : List ℕ → Span → Option Span → Bool
+is_own_number text stuck None = false
+is_own_number text stuck (Some number) = are_same text stuck number
+
+abbrev pub is_other_number : List ℕ → Option Span → Option Span → Bool
+is_other_number text None number = false
+is_other_number text (Some stuck) None = false
+is_other_number text (Some stuck) (Some number) = not (are_same text stuck number)
+
+abbrev pub is_own : List ℕ → Span → Option Mark → Line → Bool
+is_own text stuck kind line = is_mark Processor kind && is_own_number text stuck (cpu_in text (Some line))
+
+-- whether a line begins what is told of another: below a hung task the line on its blocker and each `CPU: `, and below a
+-- processor that is stuck the `CPU: ` of another one
 abbrev pub is_of_other : List ℕ → Option Mark → Option Span → Option Mark → Line → Bool
-is_of_other text head locked kind line =
-    (is_mark HungTask head && is_mark OnTask kind)
-    || (is_mark Processor kind && differ text locked (cpu_in text (Some line)))
+is_of_other text head stuck kind line =
+    (is_mark HungTask head && (is_mark OnTask kind || is_mark Processor kind))
+    || (is_mark Processor kind && is_other_number text stuck (cpu_in text (Some line)))
 
 -- whether a line ends the report below a head
 abbrev pub ends_below : List ℕ → Option Mark → Option Span → Option Mark → Line → Bool
-ends_below text head locked kind line =
-    ends_report (is_of_oops head) kind || is_of_other text head locked kind line
-
--- the lines of the report below a line
-abbrev pub report : List ℕ → Line → List Line
-report text telling =
-    take_while (λ line. not (ends_below text (kind text telling) (locked_of text telling) (kind text line) line))
-    (lines_from text telling.next)
+ends_below text head stuck kind line =
+    ends_report (is_of_oops head) kind || is_of_other text head stuck kind line
 
 unfoldable pub first_where : (Line → Bool) → List Line → Option Line
 first_where counts [] = None
 first_where counts (line ∷ lines) = if counts line then Some line else first_where counts lines
+
+-- the lines below a line up to the next report, of whatever processor
+abbrev pub below : List ℕ → Line → List Line
+below text telling =
+    take_while (λ line. not (ends_report (is_of_oops (kind text telling)) (kind text line)))
+    (lines_from text telling.next)
+
+-- where the report begins: at the `CPU: ` of the processor that is stuck, if it is there. What stands before it can be of
+-- another one, whose report is interleaved, or of a task that stalls for want of a processor
+abbrev pub begin_by : List ℕ → Line → Option Span → ℕ
+begin_by text telling None = telling.next
+begin_by text telling (Some stuck) =
+    option_map_or (λ line. line.start)
+    (first_where (λ line. is_own text stuck (kind text line) line) (below text telling)) telling.next
+
+abbrev pub begin_of : List ℕ → Line → ℕ
+begin_of text telling = begin_by text telling (stuck_of text telling)
+
+-- the lines of the report below a line
+abbrev pub report : List ℕ → Line → List Line
+report text telling =
+    take_while (λ line. not (ends_below text (kind text telling) (stuck_of text telling) (kind text line) line))
+    (lines_from text (begin_of text telling))
 
 -- the first line of the report with a mark
 abbrev pub first_in : List ℕ → Mark → Line → Option Line

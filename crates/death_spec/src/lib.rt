@@ -47,7 +47,7 @@ pub enum Mark {
     Link,
     /// Of the line of the processor: what the kernel says of itself.
     Kernel,
-    /// Of a task that hangs: how long it has been blocked.
+    /// Of a task that hangs: what stands before how long it has been blocked.
     Blocked,
     /// In a call trace: what follows a function's name.
     Offset,
@@ -75,6 +75,8 @@ pub enum Mark {
     Caution,
     /// Of a warning: what stands before the processor's number.
     Warned,
+    /// In the report of a stall: what stands before the number of a processor that stalls.
+    Listed,
 }
 
 /// What a panic is about: a report above it, by its kind and by which of that kind.

@@ -98,6 +98,7 @@ pub const WORDS: &[(Mark, &[u8])] = &[
     (Mark::Kernel, b" Kdump: "),
     (Mark::Blocked, b" blocked for more than "),
     (Mark::Blocked, b" blocked in I/O wait for more than "),
+    (Mark::Listed, b"rcu: \t"),
     (Mark::Locked, b" - CPU#"),
     (Mark::Locked, b" on cpu "),
     (Mark::Offset, b"+0x"),

@@ -197,6 +197,48 @@ RIP: 0010:f+0x1/0x2\nCall Trace:\n g+0x1/0x2\nCPU: 0 PID: 9 Comm: a Not tainted 
                 b"f+0x1/0x2",
             ],
         ),
+        // another printed first
+        (
+            b"watchdog: CPU0: Watchdog detected hard LOCKUP on cpu 1\nCPU: 0 PID: 9 Comm: a Not tainted 7.2.13 #1\n\
+RIP: 0010:f+0x1/0x2\nCPU: 1 PID: 8 Comm: b Not tainted 7.2.13 #1\nRIP: 0010:h+0x1/0x2\nCPU: 2 PID: 7 Comm: c\n",
+            [
+                b"watchdog: CPU0: Watchdog detected hard LOCKUP on cpu 1",
+                b"-",
+                b"1",
+                b"PID: 8 Comm: b",
+                b"Not tainted 7.2.13 #1",
+                b"h+0x1/0x2",
+            ],
+        ),
+        // two reports between one another
+        (
+            b"watchdog: BUG: soft lockup - CPU#2 stuck for 22s! [b:20]\nCPU: 2 UID: 0 PID: 20 Comm: b Not tainted 6.12.0 #1\n\
+watchdog: BUG: soft lockup - CPU#1 stuck for 22s! [a:10]\nRIP: 0010:g+0x1/0x2\n\
+CPU: 1 UID: 0 PID: 10 Comm: a Not tainted 6.12.0 #1\nRIP: 0010:f+0x1/0x2\n\
+Kernel panic - not syncing: softlockup: hung tasks\n",
+            [
+                b"watchdog: BUG: soft lockup - CPU#1 stuck for 22s! [a:10]",
+                b"Kernel panic - not syncing: softlockup: hung tasks",
+                b"1",
+                b"UID: 0 PID: 10 Comm: a",
+                b"Not tainted 6.12.0 #1",
+                b"f+0x1/0x2",
+            ],
+        ),
+        // the own line stands below the next report
+        (
+            b"watchdog: BUG: soft lockup - CPU#1 stuck for 22s! [a:10]\nRIP: 0010:g+0x1/0x2\n\
+WARNING: CPU: 1 PID: 10 at a.c:1 f+0x1/0x2\nKernel panic - not syncing: softlockup: hung tasks\n\
+CPU: 1 PID: 10 Comm: a Not tainted 6.12.0 #1\n",
+            [
+                b"watchdog: BUG: soft lockup - CPU#1 stuck for 22s! [a:10]",
+                b"Kernel panic - not syncing: softlockup: hung tasks",
+                b"1",
+                b"-",
+                b"-",
+                b"g+0x1/0x2",
+            ],
+        ),
         // the line names none: the report tells
         (
             b"watchdog: Watchdog detected hard LOCKUP on cpu ?\nCPU: 2 PID: 9 Comm: a Not tainted 7.2.13 #1\n\
@@ -259,6 +301,96 @@ fn traces_of_other_processors(rt: HostRuntime) -> Result<(), Fail> {
         assert!(rt; are_names(rt.alloc(), text, wanted)?);
     }
     Ok(())
+}
+
+// A stall of RCU lists the processors that stall. Its own thread, which got none, prints its trace before theirs.
+const STALL: &[u8] = b"\
+<3>[   47.900001] rcu: INFO: rcu_preempt self-detected stall on CPU\n\
+<3>[   47.900002] rcu: \t1-....: (20999 ticks this GP) idle=4e74/1/0x4000000000000000 softirq=95/95 fqs=1\n\
+<3>[   47.900003] rcu: \t(t=21000 jiffies g=-899 q=7 ncpus=4)\n\
+<3>[   47.900004] rcu: rcu_preempt kthread starved for 20998 jiffies! g-899 f0x0 RCU_GP_WAIT_FQS(5) ->state=0x0 ->cpu=2\n\
+<3>[   47.900005] rcu: RCU grace-period kthread stack dump:\n\
+<6>[   47.900006] task:rcu_preempt     state:R  running task     stack:0     pid:15    ppid:2      flags:0x00004000\n\
+<6>[   47.900007] Call Trace:\n\
+<6>[   47.900008]  __schedule+0x3e8/0xac0\n\
+<6>[   47.900009]  rcu_gp_fqs_loop+0x11a/0x5c0\n\
+<3>[   47.900010] rcu: Stack dump where RCU GP kthread last ran:\n\
+<4>[   47.900011] CPU: 2 PID: 0 Comm: swapper/2 Not tainted 6.1.0 #1\n\
+<4>[   47.900012] RIP: 0010:default_idle+0x1/0x2\n\
+<4>[   47.900013] CPU: 1 PID: 134 Comm: sh Not tainted 6.1.0 #1\n\
+<4>[   47.900014] RIP: 0010:boom_write+0x19b/0x380 [boom]\n\
+<4>[   47.900015] Call Trace:\n\
+<4>[   47.900016]  proc_reg_write+0x5a/0xa0\n\
+<0>[   47.900017] Kernel panic - not syncing: RCU Stall\n";
+
+// By hand, from kernel/rcu/tree_stall.h.
+#[test]
+fn a_stall(rt: HostRuntime) -> Result<(), Fail> {
+    assert_told(
+        &rt,
+        STALL,
+        [
+            b"rcu: INFO: rcu_preempt self-detected stall on CPU",
+            b"Kernel panic - not syncing: RCU Stall",
+            b"1",
+            b"PID: 134 Comm: sh",
+            b"Not tainted 6.1.0 #1",
+            b"boom_write+0x19b/0x380 [boom]",
+        ],
+    );
+    assert!(rt; are_names(rt.alloc(), STALL, b"proc_reg_write\n")?);
+    Ok(())
+}
+
+#[test]
+fn processors_that_stall(rt: HostRuntime) {
+    for (text, telling, cpu) in [
+        // the first that is listed
+        (
+            b"rcu: INFO: rcu_preempt detected stalls on CPUs/tasks:\nrcu: \t12-...!: (0 ticks this GP)\nrcu: \t3-...!: (1 GPs behind)\n\
+CPU: 0 PID: 9 Comm: a Not tainted 6.1.0 #1\n"
+                .as_slice(),
+            b"rcu: INFO: rcu_preempt detected stalls on CPUs/tasks:".as_slice(),
+            b"12".as_slice(),
+        ),
+        // before 4.20
+        (
+            b"[    1.5] INFO: rcu_sched self-detected stall on CPU\n[    1.5] \t2-...: (5250 ticks this GP)\nCPU: 0 PID: 9 Comm: a\n",
+            b"INFO: rcu_sched self-detected stall on CPU",
+            b"2",
+        ),
+        // the list names none: the report tells
+        (
+            b"rcu: INFO: rcu_preempt detected stalls on CPUs/tasks:\nrcu: \tTasks blocked on level-0 rcu_node (CPUs 0-3): P36\n\
+CPU: 2 PID: 9 Comm: a Not tainted 6.1.0 #1\n",
+            b"rcu: INFO: rcu_preempt detected stalls on CPUs/tasks:",
+            b"2",
+        ),
+        (
+            b"rcu: INFO: rcu_preempt self-detected stall on CPU\nrcu: \t1....: (20999 ticks this GP)\nCPU: 2 PID: 9 Comm: a\n",
+            b"rcu: INFO: rcu_preempt self-detected stall on CPU",
+            b"2",
+        ),
+        (
+            b"rcu: INFO: rcu_preempt self-detected stall on CPU\nrcu: \t-....: (20999 ticks this GP)\nCPU: 2 PID: 9 Comm: a\n",
+            b"rcu: INFO: rcu_preempt self-detected stall on CPU",
+            b"2",
+        ),
+        // it is no stall
+        (
+            b"BUG: a\nrcu: \t1-....: (20999 ticks this GP)\nCPU: 2 PID: 9 Comm: a\n",
+            b"BUG: a",
+            b"2",
+        ),
+        // the log ends
+        (
+            b"rcu: INFO: rcu_preempt self-detected stall on CPU",
+            b"rcu: INFO: rcu_preempt self-detected stall on CPU",
+            b"-",
+        ),
+    ] {
+        assert!(rt; is_on(text, telling, cpu));
+    }
 }
 
 // A number before other words, or none before these.
@@ -358,6 +490,30 @@ INFO: task a:10 is blocked on a mutex likely owned by task b:11.\nCall Trace:\n 
         ],
     );
     assert!(rt; are_names(rt.alloc(), LOST, b"")?);
+    Ok(())
+}
+
+// With hung_task_all_cpu_backtrace=1 all processors print what they run. The trace of the task itself can be missing, as
+// its level is lower. By hand.
+#[test]
+fn a_task_that_hangs_runs_on_no_processor(rt: HostRuntime) -> Result<(), Fail> {
+    const OTHERS: &[u8] =
+        b"<3>INFO: task a:10 blocked for more than 120 seconds.\n<3>      Not tainted 6.12.0 #1\n\
+<4>NMI backtrace for cpu 1\n<4>CPU: 1 UID: 0 PID: 9 Comm: b Not tainted 6.12.0 #1\n<4>RIP: 0010:g+0x1/0x2\n\
+<4>Call Trace:\n<4> h+0x1/0x2\n<0>Kernel panic - not syncing: hung_task: blocked tasks\n";
+    assert_told(
+        &rt,
+        OTHERS,
+        [
+            b"INFO: task a:10 blocked for more than 120 seconds.",
+            b"Kernel panic - not syncing: hung_task: blocked tasks",
+            b"-",
+            b"a:10",
+            b"Not tainted 6.12.0 #1",
+            b"-",
+        ],
+    );
+    assert!(rt; are_names(rt.alloc(), OTHERS, b"")?);
     Ok(())
 }
 

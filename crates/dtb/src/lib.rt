@@ -4,9 +4,9 @@
 
 ghost use Rattle.std.specs.Prelude.{◌≡◌, ◌<◌, ◌≤◌, ◌^◌, IfOk};
 ghost use Rattle.dtb_spec.specs.Headers.{fits as fits_in, header_of};
-ghost use Rattle.dtb_spec.specs.Ramoops.{node_of, nodes_between, nodes_of};
+ghost use Rattle.dtb_spec.specs.Ramoops.{node_of, nodes_between};
 ghost use Rattle.dtb.specs.Inside.{IsInside};
-ghost use Rattle.dtb.specs.ReaderAnswers.{GivesNode, Answers};
+ghost use Rattle.dtb.specs.ReaderAnswers.{GivesNode, Answers, IsRead};
 
 mod cells;
 mod properties;
@@ -138,7 +138,7 @@ fn nodes(alloc: Global, structure: &[u8], strings: &[u8]) -> Result<Vec<Node>, D
 /// The ramoops nodes of a device tree, in their order, or the first fault, unless memory runs out. A node is a ramoops
 /// node if its `compatible` lists `ramoops`, and its `status`, if it has one, is `okay` or `ok`.
 pub fn ramoops_nodes(alloc: Global, bytes: &[u8]) -> Result<Vec<Node>, DtbError>
-    ensures { Answers result (nodes_of bytes.now) }
+    ensures { IsRead bytes.now result }
 {
     let header = header(bytes)?;
     let structure = header.structure;

@@ -109,7 +109,7 @@ reserved_tree =
     ∷ 99 ∷ 111 ∷ 109 ∷ 112 ∷ 97 ∷ 116 ∷ 105 ∷ 98 ∷ 108 ∷ 101 ∷ 0 ∷ 114 ∷ 101 ∷ 103 ∷ 0 ∷ 114 ∷ 101 ∷ 99 ∷ 111 ∷ 114
     ∷ 100 ∷ 45 ∷ 115 ∷ 105 ∷ 122 ∷ 101 ∷ 0 ∷ []
 
--- records alone have a size, and keep it alone: the node stands where the bindings want it
+-- only `record-size` is set. The node is in /reserved-memory, so console and pmsg get no size
 abbrev pub ReservedRow : Type 0
 ReservedRow = nodes_of reserved_tree ≡ Ok (record {
   path = codes "/reserved-memory/r";
@@ -138,7 +138,7 @@ traced_tree =
     ∷ 111 ∷ 114 ∷ 100 ∷ 45 ∷ 115 ∷ 105 ∷ 122 ∷ 101 ∷ 0 ∷ 102 ∷ 116 ∷ 114 ∷ 97 ∷ 99 ∷ 101 ∷ 45 ∷ 115 ∷ 105 ∷ 122
     ∷ 101 ∷ 0 ∷ []
 
--- records do not have the only size
+-- `ftrace-size` is set too, so console and pmsg get no size
 abbrev pub TracedRow : Type 0
 TracedRow = nodes_of traced_tree ≡ Ok (record {
   path = codes "/r";

@@ -22,7 +22,7 @@ pub fn are_lines_of_nodes()
 {}
 
 /// A tree with one ramoops node, the same cut off and with another token; each rule of the kernel for numbers and
-/// status on a second tree; and the size of records alone, where it stays alone.
+/// status on a second tree; and where console and pmsg get no size from that of records.
 pub fn rows()
     ensures small { SmallRow }
     ensures cut { CutRow }

@@ -5,7 +5,7 @@ mod places;
 mod region;
 mod search;
 
-pub use memory_regions::{Part, Unread, Watch};
+pub use memory_regions::{Unread, Watch};
 pub use places::{first_address, place_asked};
 pub use region::{Region, region_at};
 pub use search::{Finding, findings};

@@ -1,7 +1,7 @@
 -- An image that is read and written in pieces.
-use Rattle.std.proofs.Common.{◌≡◌, ◌⊎◌, inl, inr, replicate, ℕ, ◌+◌, ◌≤◌, List, [], ◌++◌, length, take, drop, arith}
-use Rattle.std.proofs.Common.{Option, Some, None, IfSome, Result, Ok, Err, OnOk, length-append, zero-add, sym, ◌∙◌}
-use Rattle.std.proofs.Common.{refl}
+use Rattle.std.proofs.Common.{◌≡◌, ◌⊎◌, inl, inr, replicate, ℕ, suc, ◌+◌, ◌-◌, min, ◌<◌, ◌≤◌, List, [], ◌++◌, length}
+use Rattle.std.proofs.Common.{take, drop, arith, Option, Some, None, IfSome, Result, Ok, Err, OnOk, length-append}
+use Rattle.std.proofs.Common.{zero-add, sym, ap, ◌∙◌, refl}
 use borrow.Rule.Slice.PartMut.{put_mid}
 use Rattle.std.proofs.lemmas.Slice.{take-put_mid}
 use Rattle.std.proofs.lemmas.List.{take-replicate, replicate-append-replicate, length-replicate}
@@ -10,6 +10,7 @@ use Rattle.std.proofs.lemmas.List.{drop-drop}
 use Rattle.std.proofs.Math.Seq.{take-add, take-append_seam, drop-append-add}
 use Rattle.outside.specs.declared.outside.Failed.{Failed}
 use Rattle.outside.specs.Outside.{next_count, Rose, Writes, WritesFront, written}
+use Rattle.image_file.specs.Saving.{piece_count, count_after}
 
 -- bytes that were read up to a place, and a piece that was read into the places behind it
 pub read_into : (r : Result (Unit {0}) Failed) (holds : Option (List ℕ)) (at k n m : ℕ) (bytes into : List ℕ)
@@ -102,3 +103,22 @@ zeros_short a b c at n size piece small fits e h front =
 pub asked_on : (a m b : ℕ) → (m ≡ a) ⊎ Rose a m → b ≡ next_count m → Rose a b
 asked_on a m b (inl same) h = omega (arith, same, h)
 asked_on a m b (inr rose) h = omega (arith, rose, h)
+
+-- the count of writes where none was made yet, after one more piece, and where none is left
+pub counted_first : (size count : ℕ) → count_after (piece_count (size - 0)) count ≡ count_after (piece_count size) count
+counted_first size count =
+    let same : size - 0 ≡ size = omega arith in ap (λ n. count_after (piece_count n) count) same
+
+pub counted_next : (size at next n before now all : ℕ) → at < size → n ≡ min 65536 (size - at) → next ≡ at + n
+    → now ≡ next_count before → count_after (piece_count (size - at)) before ≡ all
+    → count_after (piece_count (size - next)) now ≡ all
+unfolding count_after
+counted_next size at next n before now all more e step once h =
+    let one : piece_count (size - at) ≡ suc (piece_count (size - next)) = omega arith in
+    ap (count_after (piece_count (size - next))) once ∙ sym (ap (λ k. count_after k before) one) ∙ h
+
+pub counted_all : (size at now all : ℕ) → size ≤ at → count_after (piece_count (size - at)) now ≡ all → now ≡ all
+unfolding count_after
+counted_all size at now all done h =
+    let none : piece_count (size - at) ≡ 0 = omega arith in
+    sym (ap (λ k. count_after k now) none) ∙ h

@@ -23,6 +23,7 @@ fn read_piece<M: Load>(
     ensures same { M.holds image.new ≡ M.holds image.old }
     ensures unwritten { M.writes image.new ≡ M.writes image.old }
     ensures cause { HasCause (M.faults image.old) (M.faults image.new) result }
+    ensures read_cause { HasCause (M.read_faults image.old) (M.read_faults image.new) result }
 {
     image.read_at(at as u64, &mut bytes[at..at + count])
 }
@@ -35,6 +36,7 @@ fn read_pieces<M: Load>(alloc: Global, image: &mut M, mem: u32) -> Result<Vec<u8
     ensures same { M.holds image.new ≡ M.holds image.old }
     ensures unwritten { M.writes image.new ≡ M.writes image.old }
     ensures counts { KeptUnless Stop.ImageFault result (M.faults image.old) (M.faults image.new) }
+    ensures read_counts { KeptUnless Stop.ImageFault result (M.read_faults image.old) (M.read_faults image.new) }
     ensures later { M.faults image.old ≤ M.faults image.new }
 {
     let size = mem as usize;
@@ -57,6 +59,7 @@ pub fn check_size<M: Load>(image: &mut M, mem: u32) -> Result<(), Stop>
     ensures same { M.holds image.new ≡ M.holds image.old }
     ensures unwritten { M.writes image.new ≡ M.writes image.old }
     ensures counts { KeptUnless Stop.ImageFault result (M.faults image.old) (M.faults image.new) }
+    ensures read_counts { KeptUnless Stop.ImageFault result (M.read_faults image.old) (M.read_faults image.new) }
     ensures later { M.faults image.old ≤ M.faults image.new }
 {
     match image.size() {
@@ -75,6 +78,7 @@ pub fn load<M: Load>(alloc: Global, image: &mut M, mem: u32) -> Result<Vec<u8>, 
     ensures same { M.holds image.new ≡ M.holds image.old }
     ensures unwritten { M.writes image.new ≡ M.writes image.old }
     ensures counts { KeptUnless Stop.ImageFault result (M.faults image.old) (M.faults image.new) }
+    ensures read_counts { KeptUnless Stop.ImageFault result (M.read_faults image.old) (M.read_faults image.new) }
     ensures later { M.faults image.old ≤ M.faults image.new }
 {
     check_size(image, mem)?;
@@ -88,6 +92,7 @@ pub fn load_front<M: Load>(alloc: Global, image: &mut M, limit: u32) -> Result<V
     ensures same { M.holds image.new ≡ M.holds image.old }
     ensures unwritten { M.writes image.new ≡ M.writes image.old }
     ensures counts { KeptUnless Stop.ImageFault result (M.faults image.old) (M.faults image.new) }
+    ensures read_counts { KeptUnless Stop.ImageFault result (M.read_faults image.old) (M.read_faults image.new) }
     ensures later { M.faults image.old ≤ M.faults image.new }
 {
     match image.size() {

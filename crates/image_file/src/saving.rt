@@ -1,6 +1,7 @@
 // An image that is written to a file in pieces.
-ghost use Rattle.std.specs.Prelude.{replicate, ◌+◌, ◌-◌, ◌<◌, ◌≤◌, length, OnErr, MatchResult};
+ghost use Rattle.std.specs.Prelude.{◌≡◌, replicate, ◌+◌, ◌-◌, ◌<◌, ◌≤◌, length, OnOk, OnErr, MatchResult};
 ghost use Rattle.outside.specs.Outside.{Rose, HasCause, Writes, WritesFront};
+ghost use Rattle.image_file.specs.Saving.{piece_count, count_after};
 
 use crate::PIECE;
 use outside::{Failed, Store};
@@ -13,6 +14,9 @@ pub fn save<M: Store>(image: &mut M, bytes: &[u8]) -> Result<(), Failed>
     ensures bytes { MatchResult result (λ _. Writes (M.holds image.old) (M.holds image.new) 0 bytes.now)
         (λ _. WritesFront (M.holds image.old) (M.holds image.new) 0 bytes.now) }
     ensures asked { OnErr result (Rose (M.writes image.old) (M.writes image.new)) }
+    ensures written { OnOk result (M.writes image.new
+        ≡ count_after (piece_count (length bytes.now)) (M.writes image.old)) }
+    ensures unread { M.read_faults image.new ≡ M.read_faults image.old }
     ensures cause { HasCause (M.faults image.old) (M.faults image.new) result }
 {
     let mut at = 0;
@@ -32,6 +36,8 @@ pub fn fill<M: Store>(image: &mut M, mem: u32) -> Result<(), Failed>
     ensures bytes { MatchResult result (λ _. Writes (M.holds image.old) (M.holds image.new) 0 (replicate mem 0))
         (λ _. WritesFront (M.holds image.old) (M.holds image.new) 0 (replicate mem 0)) }
     ensures asked { OnErr result (Rose (M.writes image.old) (M.writes image.new)) }
+    ensures written { OnOk result (M.writes image.new ≡ count_after (piece_count mem) (M.writes image.old)) }
+    ensures unread { M.read_faults image.new ≡ M.read_faults image.old }
     ensures cause { HasCause (M.faults image.old) (M.faults image.new) result }
 {
     let size = mem as usize;

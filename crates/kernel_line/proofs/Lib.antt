@@ -3,7 +3,7 @@
 mod Lines
 mod Plain
 mod WordLoop
-mod Among
+pub mod Among
 pub mod Places
 mod Digits
 mod Behind

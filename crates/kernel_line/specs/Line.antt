@@ -1,8 +1,8 @@
 -- The words of a kernel's command line (lib/cmdline.c, next_arg; kernel/params.c, parse_args), and of these the ones
 -- that say how ramoops lays its memory out (fs/pstore/ram.c, module_param), or pstore_blk a storage (fs/pstore/blk.c)
-use Rattle.std.specs.Prelude.{◌≡◌, ℕ, ◌+◌, ◌-◌, ◌%◌, Bool, true, false, not, ◌&&◌, ◌||◌, ◌==◌, nat_eq, nat_le}
+use Rattle.std.specs.Prelude.{◌≡◌, ◌⊎◌, ℕ, ◌+◌, ◌-◌, ◌%◌, ◌<◌, Bool, true, false, not, ◌&&◌, ◌||◌, ◌==◌, nat_eq, nat_le}
 use Rattle.std.specs.Prelude.{if◌then◌else◌, List, [], ◌∷◌, ◌++◌, length, take, drop, map, remove, count_by, codes}
-use Rattle.std.specs.Prelude.{bytes_eq, IsUtf8, ⊤}
+use Rattle.std.specs.Prelude.{bytes_eq, IsUtf8, All}
 use Rattle.std.specs.List.{filter, list_any, ends_with, onto_first, take_while, before_first, after_first}
 use Rattle.std.specs.List.{position_or_len}
 use Rattle.grammar_spec.specs.Numbers.{begins}
@@ -86,28 +86,39 @@ line_words line = map underscored (kernel_words line)
 unfoldable pub layout_words : Module → List ℕ → List (List ℕ)
 layout_words which line = filter (is_of which) (line_words line)
 
--- one of these words is no text
-pub record HasNoTextIn (words : List (List ℕ)) : Type 0 where
+-- one of these words is so, and those before it are texts
+pub record HasWord (is : List ℕ → Type 0) (words : List (List ℕ)) : Type 0 where
   pub before : List (List ℕ)
   pub word : List ℕ
   pub behind : List (List ℕ)
   pub listed : words ≡ before ++ word ∷ behind
-  pub no_text : ¬ (IsUtf8 word)
+  pub are_texts : All IsUtf8 before
+  pub is_so : is word
 
--- why a word is not added
+-- why a word is not added: memory is taken only for one that is of the layout, and a text
 abbrev pub IsWordFault : Module → List ℕ → LineFault → Type 0
-IsWordFault which word Memory = ⊤
+IsWordFault which word Memory = (is_of which word ≡ true) × IsUtf8 word
 IsWordFault which word OpenQuote = ⊥
 IsWordFault which word NoText = (is_of which word ≡ true) × ¬ (IsUtf8 word)
 
--- why one of these words is not added
+-- why one of these words is not added: the first that is no text, or memory for a text before that
 abbrev pub IsFaultAmong : Module → List (List ℕ) → LineFault → Type 0
-IsFaultAmong which words Memory = ⊤
+IsFaultAmong which words Memory = HasWord IsUtf8 (filter (is_of which) words)
 IsFaultAmong which words OpenQuote = ⊥
-IsFaultAmong which words NoText = HasNoTextIn (filter (is_of which) words)
+IsFaultAmong which words NoText = HasWord (λ word. ¬ (IsUtf8 word)) (filter (is_of which) words)
 
--- why a line has no words
+-- why those of the layout and then others are not put together: memory may run out at the others too
+abbrev pub IsFaultBefore : Module → List (List ℕ) → List (List ℕ) → LineFault → Type 0
+IsFaultBefore which words others Memory = IsFaultAmong which words Memory ⊎ (0 < length others)
+IsFaultBefore which words others fault = IsFaultAmong which words fault
+
+-- what was there stands first
+pub record StandsFirst (old new : List (List ℕ)) : Type 0 where
+  pub more : List (List ℕ)
+  pub is : new ≡ old ++ more
+
+-- why a line has no words: the quotes are looked at before any memory is taken
 abbrev pub IsUnread : List ℕ → LineFault → Type 0
-IsUnread line Memory = ⊤
+IsUnread line Memory = is_closed line ≡ true
 IsUnread line OpenQuote = is_closed line ≡ false
 IsUnread line NoText = ⊥

@@ -1,8 +1,8 @@
 // The words of a kernel's command line that lay out ramoops' memory, or a storage of pstore_blk.
-ghost use Rattle.std.specs.Prelude.{◌≡◌, [], ◌∷◌, ◌++◌, IfErr, OnOk};
+ghost use Rattle.std.specs.Prelude.{◌≡◌, [], ◌∷◌, ◌++◌, IfErr, OnOk, OnErr};
 ghost use Rattle.std.specs.List.{filter};
 ghost use Rattle.grammar_spec.specs.Words.{texts};
-ghost use Rattle.kernel_line.specs.Line.{is_of as is_of_module, IsWordFault, IsFaultAmong};
+ghost use Rattle.kernel_line.specs.Line.{is_of as is_of_module, IsWordFault, IsFaultAmong, StandsFirst};
 
 use crate::words::{LineFault, name_end};
 use outside::Bytes;
@@ -59,7 +59,8 @@ fn is_of(which: Module, word: &[u8]) -> bool
 }
 
 fn push_text(alloc: Global, words: &mut Vec<String>, text: &str) -> Result<(), AllocError>
-    ensures { OnOk result (texts words.new.items ≡ texts words.old.items ++ text.now ∷ []) }
+    ensures ok { OnOk result (texts words.new.items ≡ texts words.old.items ++ text.now ∷ []) }
+    ensures kept { OnErr result (words.new.items ≡ words.old.items) }
 {
     words.push(String::from_str(alloc, text)?)?;
     Ok(())
@@ -74,6 +75,7 @@ fn add_word(
     ensures ok { OnOk result (texts words.new.items
         ≡ texts words.old.items ++ filter (is_of_module which) (word.now ∷ [])) }
     ensures err { IfErr result (IsWordFault which word.now) }
+    ensures kept { OnErr result (words.new.items ≡ words.old.items) }
 {
     if !is_of(which, word) {
         return Ok(());
@@ -84,7 +86,7 @@ fn add_word(
     }
 }
 
-/// Adds those of the words that are of a module's layout.
+/// Adds those of the words that are of a module's layout. After a fault those before it were added.
 pub fn add_words(
     alloc: Global,
     which: Module,
@@ -93,6 +95,7 @@ pub fn add_words(
 ) -> Result<(), LineFault>
     ensures ok { OnOk result (texts words.new.items ≡ texts words.old.items ++ filter (is_of_module which) read.now) }
     ensures err { IfErr result (IsFaultAmong which read.now) }
+    ensures kept { OnErr result (StandsFirst (texts words.old.items) (texts words.new.items)) }
 {
     for word in read {
         add_word(alloc, which, words, word.as_slice())?;

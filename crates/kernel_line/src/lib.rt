@@ -11,4 +11,4 @@ mod words;
 pub use layout::Module;
 pub use line::KernelLine;
 pub use region::long_digits;
-pub use words::LineFault;
+pub use words::{LineFault, is_closed};

@@ -1,8 +1,8 @@
 // A kernel's command line, read once.
-ghost use Rattle.std.specs.Prelude.{◌≡◌, ℕ, true, List, ◌++◌, IfOk, IfErr, OnOk};
+ghost use Rattle.std.specs.Prelude.{◌≡◌, ℕ, true, List, ◌++◌, IfOk, IfErr, OnOk, OnErr};
 ghost use Rattle.std.specs.List.{filter};
 ghost use Rattle.grammar_spec.specs.Words.{texts};
-ghost use Rattle.kernel_line.specs.Line.{is_closed, is_of, line_words, IsFaultAmong, IsUnread};
+ghost use Rattle.kernel_line.specs.Line.{is_closed, is_of, line_words, IsFaultAmong, IsUnread, StandsFirst};
 ghost use Rattle.kernel_line.specs.Region.{address_in, reserved_in};
 
 use crate::layout::{Module, add_words};
@@ -25,7 +25,7 @@ impl Model for KernelLine {
 }
 
 impl KernelLine {
-    /// Reads them as the kernel does. A quote without its end is refused.
+    /// Reads them as the kernel does. A quote without its end is refused, before any memory is taken.
     pub fn read(alloc: Global, line: &[u8]) -> Result<KernelLine, LineFault>
         ensures ok { IfOk result (λ read. read ≡ line_words line.now) }
         ensures closed { OnOk result (is_closed line.now ≡ true) }
@@ -37,7 +37,7 @@ impl KernelLine {
 
     /// Adds those that say how a module lays its memory, or a storage, out: those that begin with `ramoops.`, but for
     /// `mem_address`, `mem_name`, `mem_type`, `max_reason` and `dump_oops`; or with `pstore_blk.`, but for `blkdev`,
-    /// `best_effort` and `max_reason`.
+    /// `best_effort` and `max_reason`. After a fault some of them were added.
     pub fn add_layout_words(
         &self,
         alloc: Global,
@@ -46,6 +46,7 @@ impl KernelLine {
     ) -> Result<(), LineFault>
         ensures ok { OnOk result (texts words.new.items ≡ texts words.old.items ++ filter (is_of which) self.now) }
         ensures err { IfErr result (IsFaultAmong which self.now) }
+        ensures kept { OnErr result (StandsFirst (texts words.old.items) (texts words.new.items)) }
     {
         add_words(alloc, which, words, &self.words)
     }

@@ -36,7 +36,8 @@ fn is_white(b: u8) -> bool
     (9 <= b && b <= 13) || b == 32 || b == 160
 }
 
-fn is_closed(line: &[u8]) -> bool
+/// Tells whether each quote of a line has its end. Takes no memory.
+pub fn is_closed(line: &[u8]) -> bool
     ensures { result ≡ is_closed line.now }
 {
     line.iter().filter(|b| **b == b'"').count() % 2 == 0
@@ -170,7 +171,7 @@ fn behind(line: &[u8], at: usize) -> &[u8]
 /// The words of a kernel's command line, as the kernel reads them (`lib/cmdline.c`, `next_arg`; `kernel/params.c`,
 /// `parse_args`). White space separates words, but not within double quotes. A word loses a quote in front of it or of
 /// its value, and then the one at its end. A `-` of a name reads as `_`. What stands behind a word `--` is init's. A
-/// quote without its end is refused.
+/// quote without its end is refused, before any memory is taken.
 pub fn kernel_words(alloc: Global, line: &[u8]) -> Result<Vec<Bytes>, LineFault>
     ensures ok { IfOk result (λ words. words.items ≡ line_words line.now) }
     ensures closed { OnOk result (is_closed line.now ≡ true) }

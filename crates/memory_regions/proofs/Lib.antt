@@ -1,4 +1,3 @@
-mod ReadWithin
 pub mod PageMarks
 pub mod NextPiece
 mod FromFront

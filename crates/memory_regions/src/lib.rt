@@ -1,13 +1,11 @@
-//! Regions in a copy of a machine's memory: a part of a file as a file of its own, the pages at which a header seems to
-//! stand, and the size and layout of the region that begins at a place.
+//! Regions in a copy of a machine's memory: the pages at which a header seems to stand, and the size and layout of the
+//! region that begins at a place.
 #![tactic(auto)]
 
 mod choosing;
 mod pages;
-mod part;
 mod rings;
 mod sizes;
 
 pub use choosing::{Reading, best, larger, readings};
 pub use pages::{Unread, Watch, marked_pages, window};
-pub use part::Part;

@@ -29,6 +29,6 @@ ends_in order bytes at = header_end order bytes at ++ ring_end order bytes at
 abbrev pub ends_at : List ℕ → ℕ → List ℕ
 ends_at bytes at = if is_mark bytes at then ends_in Little bytes at ++ ends_in Big bytes at else []
 
--- of all even places with a whole header behind them: zones need not begin at a page
+-- of all even places with a whole header after them: zones need not begin at a page
 unfoldable pub ends : List ℕ → List ℕ
 ends bytes = flat_map (λ i. ends_at bytes (2 * i)) (halves bytes)

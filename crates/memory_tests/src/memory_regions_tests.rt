@@ -1,7 +1,7 @@
 // Regions of two and four fresh zones in memories of zeros.
 use layout_search::Known;
-use memory_regions::{Part, Unread, Watch, best, larger, marked_pages, readings, window};
-use outside::{Bytes, Calls, Load, MemStore};
+use memory_regions::{Unread, Watch, best, larger, marked_pages, readings, window};
+use outside::{Bytes, Calls, MemStore};
 use std::alloc::{AllocError, Global};
 use std::test::Fail;
 use zone_spec::ByteOrder;
@@ -99,13 +99,6 @@ fn store(alloc: Global, bytes: Vec<u8>, fails: &[u32]) -> Result<MemStore, Alloc
     }
 }
 
-fn part(mut store: MemStore, at: u64, size: u64) -> Option<Part<MemStore>> {
-    match store.size() {
-        Ok(has) => Part::new(store, has, at, size),
-        Err(_) => None,
-    }
-}
-
 // The pages of the four zones, told by one question for the size and one read.
 #[test]
 fn pages_of_zones(rt: HostRuntime) -> Result<(), Fail> {
@@ -189,20 +182,6 @@ fn a_big_endian_region(rt: HostRuntime) -> Result<(), Fail> {
     let found = first.found.ok_or("none")?;
     assert!(rt; found.candidate.byte_order == ByteOrder::Big);
     assert_eq!(rt; (found.tally.faults, found.tally.fits), (0, 2));
-    Ok(())
-}
-
-// A part is read as a file of its own, and there is none if the memory ends before it.
-#[test]
-fn a_part_is_a_file(rt: HostRuntime) -> Result<(), Fail> {
-    let inner = store(rt.alloc(), memory(rt.alloc(), 1)?, &[])?;
-    let mut image = part(inner, 4096, 8192).ok_or("no part")?;
-    assert_eq!(rt; image.size(), Ok(8192));
-    let mut front = [1u8; 5];
-    assert!(rt; image.read_at(0, &mut front).is_ok());
-    assert_eq!(rt; front.as_slice(), b"DBGC\0".as_slice());
-    let inner = store(rt.alloc(), memory(rt.alloc(), 1)?, &[])?;
-    assert!(rt; part(inner, 4097, 8192).is_none());
     Ok(())
 }
 

@@ -5,7 +5,7 @@ use Rattle.grammar_spec.specs.Fields.{Text}
 use Rattle.kernel_line.specs.declared.layout.Module.TheVariants.{Ramoops}
 use Rattle.kernel_line.specs.declared.words.LineFault.{LineFault}
 use Rattle.kernel_line.specs.declared.words.LineFault.TheVariants.{Memory as NoMemory, NoText}
-use Rattle.kernel_line.specs.Line.{is_closed, is_of, line_words, IsFaultAmong}
+use Rattle.kernel_line.specs.Line.{is_closed, is_of, line_words, IsFaultBefore}
 use Rattle.report_entry.specs.Words.{text_words}
 use Rattle.report_entry.specs.Storages.{with_storage_words, IsLineFault}
 use Rattle.oopsbox_page.specs.declared.words.NoWords.{NoWords}
@@ -29,7 +29,7 @@ pub record IsStorageFault (tree : List ℕ) (line more : List Text) (fault : Lin
   pub fault_is : IsLineFault (region_words line more) line fault
 
 abbrev pub IsFaultBy : List ℕ → List Text → List Text → LineFault → Type 0
-IsFaultBy tree line more fault = IsFaultAmong Ramoops line fault ⊎ IsStorageFault tree line more fault
+IsFaultBy tree line more fault = IsFaultBefore Ramoops line more fault ⊎ IsStorageFault tree line more fault
 
 -- each quote of the line has its end, and the text is UTF-8
 pub record IsReadable (line text : List ℕ) : Type 0 where
@@ -42,9 +42,10 @@ IsUnreadable tree line text = (is_closed line ≡ false)
     ⊎ IsFaultBy tree (line_words line) (text_words text) NoText
     ⊎ (¬ (IsUtf8 text))
 
+-- why there are no words: memory is taken only for a line and a text that can be read
 abbrev pub IsUnread : List ℕ → List ℕ → List ℕ → NoWords → Type 0
 IsUnread tree line text Unreadable = IsUnreadable tree line text
-IsUnread tree line text Memory = IsUtf8 text
+IsUnread tree line text Memory = IsReadable line text
 
 abbrev pub no_words : LineFault → NoWords
 no_words NoMemory = Memory

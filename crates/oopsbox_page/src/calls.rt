@@ -1,5 +1,5 @@
 // The call that the page makes.
-ghost use Rattle.std.specs.Prelude.{◌≡◌, IsUtf8};
+ghost use Rattle.std.specs.Prelude.{◌≡◌};
 ghost use Rattle.report_entry.specs.Answers.{status_of};
 ghost use Rattle.report_entry.specs.Calls.{CallEnds, given, written};
 ghost use Rattle.oopsbox_page.specs.Words.{IsReadable, IsUnreadable, asked_words};
@@ -19,7 +19,7 @@ fn report(
     text: &mut [u8],
     answer: &mut ReportAnswer,
 ) -> ReportEnd
-    ensures { CallEnds result (IsUtf8 words.now) (IsReadable line.now words.now)
+    ensures { CallEnds result (IsReadable line.now words.now) (IsReadable line.now words.now)
         (IsUnreadable tree.now line.now words.now)
         (asked_words tree.now line.now words.now) (given name.now format tree.now image.now) (written text.old answer.old)
         (written text.new answer.new) }
@@ -54,7 +54,7 @@ pub extern "C" fn oopsbox_page_report(
     answer: &mut ReportAnswer,
 ) -> u32
     ensures { (end : ReportEnd) × (result ≡ status_of end)
-        × CallEnds end (IsUtf8 words.now) (IsReadable line.now words.now)
+        × CallEnds end (IsReadable line.now words.now) (IsReadable line.now words.now)
         (IsUnreadable tree.now line.now words.now)
         (asked_words tree.now line.now words.now) (given name.now format tree.now image.now) (written text.old answer.old)
         (written text.new answer.new) }

@@ -104,11 +104,13 @@ fn with_formats<'a>(alloc: Global, command: Command<'a>) -> Result<Command<'a>, 
     let json = Arg::new(alloc, "json")
         .long("json")
         .action(ArgAction::SetTrue)
+        .conflicts_with("format")?
         .help("As --format json");
     let html = Arg::new(alloc, "html")
         .long("html")
         .action(ArgAction::SetTrue)
         .conflicts_with("json")?
+        .conflicts_with("format")?
         .help("As --format html");
     let brief = Arg::new(alloc, "brief")
         .long("brief")

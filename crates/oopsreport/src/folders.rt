@@ -29,11 +29,19 @@ fn linked<R: Runtime>(rt: &R, path: &str) -> Kind {
     }
 }
 
+/// Stands for a name that is not UTF-8. There is mostly no such file, so that opening it tells of it.
+const NO_NAME: &str = "\u{fffd}";
+
 // The names in a folder.
 fn names_in<R: Runtime>(rt: &R, alloc: Global, folder: &str) -> io::Result<Vec<String>> {
     let mut names = Vec::new(alloc);
     for entry in fs::read_dir(rt, folder)? {
-        names.push(String::from_str(alloc, entry?.file_name())?)?;
+        let name = match entry {
+            Ok(entry) => String::from_str(alloc, entry.file_name())?,
+            Err(e) if e.kind() == ErrorKind::InvalidFilename => String::from_str(alloc, NO_NAME)?,
+            Err(e) => return Err(e),
+        };
+        names.push(name)?;
     }
     Ok(names)
 }

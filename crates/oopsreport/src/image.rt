@@ -1,7 +1,7 @@
 // Images as the system has them: a file, or what comes one byte after the other.
-ghost use Rattle.std.specs.Prelude.{◌≡◌, ◌+◌, length, None};
+ghost use Rattle.std.specs.Prelude.{None};
 
-use crate::unpacking::{is_packed, unpacked};
+use crate::unpacking::{FRONT, MOST_PACKED, is_packed, packing_of, unpacked};
 use anyhow::{Result, bail};
 use outside::{Failed, FileLoad, Load};
 use report_run::{Failure, Images, Wanted};
@@ -13,11 +13,14 @@ use std::rt::Runtime;
 /// How many bytes are asked for at a time.
 const PIECE: usize = 65_536;
 
+/// The end of a device that does not tell it: no place is greater.
+const NO_END: u64 = 0x7fff_ffff_ffff_ffff;
+
 /// What an image is read from.
 #[derive(Drop)]
 enum Kind<R: Runtime> {
     File(FileLoad<R>),
-    /// A device that is read at places, such as a disk's partition, and how many bytes of it are wanted.
+    /// A device that is read at places, such as a disk's partition or `/dev/mem`, and how many bytes of it may be read.
     Device(R::File, u64),
     /// Of standard input or another device its front, of a compressed file all that it stands for.
     Front(Vec<u8>),
@@ -91,13 +94,18 @@ impl<R: Runtime> Load for Image<R> {
     }
 }
 
-// The first bytes that a reader gives, at most so many.
-fn front_of<F: Read>(alloc: Global, reader: &mut F, most: usize) -> io::Result<Vec<u8>> {
-    let mut front = Vec::new(alloc);
+// Adds what a reader gives, until there are so many bytes. No more is asked for: a pipe may have none for long.
+fn read_on<F: Read>(
+    alloc: Global,
+    reader: &mut F,
+    front: &mut Vec<u8>,
+    most: usize,
+) -> io::Result<()> {
     let mut piece = vec![in alloc; 0u8; PIECE]?;
     for _ in 0..u64::MAX {
-        let count = match reader.read(&mut piece) {
-            Ok(count) => count.min(most.saturating_sub(front.len())),
+        let want = most.saturating_sub(front.len()).min(piece.len());
+        let count = match reader.read(&mut piece[..want]) {
+            Ok(count) => count.min(want),
             Err(e) if e.kind() == ErrorKind::Interrupted => continue,
             Err(e) => return Err(e),
         };
@@ -108,6 +116,18 @@ fn front_of<F: Read>(alloc: Global, reader: &mut F, most: usize) -> io::Result<V
             front.extend_from_slice(more)?;
         }
     }
+    Ok(())
+}
+
+// What a reader stands for: of a gzip file all of its text, else its first bytes, at most so many.
+fn front_of<F: Read>(alloc: Global, reader: &mut F, most: usize) -> Result<Vec<u8>> {
+    let mut front = Vec::new(alloc);
+    read_on(alloc, reader, &mut front, FRONT.min(most))?;
+    if packing_of(&front)? {
+        read_on(alloc, reader, &mut front, MOST_PACKED)?;
+        return unpacked(alloc, &front);
+    }
+    read_on(alloc, reader, &mut front, most)?;
     Ok(front)
 }
 
@@ -120,6 +140,36 @@ fn open_device<R: Runtime>(rt: &R, alloc: Global, path: &str, most: u32) -> Resu
     }
 }
 
+// A file. One whose length shows as 0, as in /proc, is read to its end, and so is one that is compressed.
+fn open_file<R: Runtime>(
+    rt: &R,
+    alloc: Global,
+    path: &str,
+    len: u64,
+    most: u32,
+) -> Result<Kind<R>> {
+    let mut reader = fs::File::open(rt, path)?;
+    let mut file = FileLoad::new(rt, alloc, path)?;
+    let Ok(is_packed) = is_packed(&mut file) else {
+        bail!("it could not be read");
+    };
+    if is_packed || len == 0 {
+        return Ok(Kind::Front(front_of(alloc, &mut reader, most as usize)?));
+    }
+    Ok(Kind::File(file))
+}
+
+// Reads a folder's names. One that is no text does not matter.
+fn read_names<R: Runtime>(rt: &R, path: &str) -> io::Result<()> {
+    for entry in fs::read_dir(rt, path)? {
+        match entry {
+            Err(e) if e.kind() != ErrorKind::InvalidFilename => return Err(e),
+            _ => (),
+        }
+    }
+    Ok(())
+}
+
 // The image at a path.
 fn open<R: Runtime, S: Read>(
     rt: &R,
@@ -129,53 +179,79 @@ fn open<R: Runtime, S: Read>(
     most: u32,
 ) -> Result<Kind<R>> {
     if path == "-" {
-        return Ok(Kind::Front(unpacked(alloc, front_of(alloc, input, most as usize)?)?));
+        return Ok(Kind::Front(front_of(alloc, input, most as usize)?));
     }
     let metadata = fs::metadata(rt, path)?;
     if metadata.is_dir() {
         // Why its names could not be read.
-        fs::read_dir(rt, path)?;
+        read_names(rt, path)?;
         bail!("it is a folder");
     }
     if metadata.is_file() {
-        let mut file = FileLoad::new(rt, alloc, path)?;
-        return match is_packed(&mut file) {
-            Ok(true) => Ok(Kind::Front(unpacked(
-                alloc,
-                Vec::from_slice(alloc, &fs::read(rt, path)?)?,
-            )?)),
-            Ok(false) => Ok(Kind::File(file)),
-            Err(Failed) => bail!("it could not be read"),
-        };
+        return open_file(rt, alloc, path, metadata.len(), most);
     }
     open_device(rt, alloc, path, most)
 }
 
-// The file at a path, as it stands.
-fn open_whole<R: Runtime>(rt: &R, alloc: Global, path: &str) -> Result<Kind<R>> {
-    if !fs::metadata(rt, path)?.is_file() {
+// A file with a copy of a memory.
+fn open_copy<R: Runtime>(rt: &R, alloc: Global, path: &str) -> Result<Kind<R>> {
+    let _reader = fs::File::open(rt, path)?;
+    let mut file = FileLoad::new(rt, alloc, path)?;
+    let Ok(is_packed) = is_packed(&mut file) else {
+        bail!("it could not be read");
+    };
+    if is_packed {
+        bail!("it is compressed: unpack it first");
+    }
+    Ok(Kind::File(file))
+}
+
+// The device of a memory. It may not tell its end, as `/dev/mem`.
+fn open_memory<R: Runtime>(rt: &R, path: &str) -> Result<Kind<R>> {
+    let mut device = fs::File::open(rt, path)?;
+    match device.seek(SeekFrom::End(0)) {
+        Ok(size) if size > 0 => Ok(Kind::Device(device, size)),
+        Ok(_) | Err(_) => Ok(Kind::Device(device, NO_END)),
+    }
+}
+
+// The file at a path, as it stands; or a device, if it is known which place of it is read.
+fn open_whole<R: Runtime>(rt: &R, alloc: Global, path: &str, is_placed: bool) -> Result<Kind<R>> {
+    if path == "-" {
         bail!("it is no file");
     }
-    Ok(Kind::File(FileLoad::new(rt, alloc, path)?))
+    let metadata = fs::metadata(rt, path)?;
+    if metadata.is_dir() {
+        bail!("it is no file");
+    }
+    if metadata.is_file() {
+        return open_copy(rt, alloc, path);
+    }
+    if !is_placed {
+        bail!("it is no file; a device needs a place, such as --at");
+    }
+    open_memory(rt, path)
 }
 
 /// The files of the system, by their paths; `-` is standard input. Of what is no regular file, such as a device or a
-/// pipe, no more is read than is wanted, and it is no whole memory.
+/// pipe, no more is read than is wanted. A whole memory can be a device only if a place in it is named.
 #[derive(Drop)]
 pub struct System<R: Runtime, S> {
     rt: R,
     alloc: Global,
     input: S,
+    is_placed: bool,
     unopened: u64,
     faults: u64,
 }
 
 impl<R: Runtime, S> System<R, S> {
-    pub fn new(rt: R, alloc: Global, input: S) -> System<R, S> {
+    pub fn new(rt: R, alloc: Global, input: S, is_placed: bool) -> System<R, S> {
         System {
             rt,
             alloc,
             input,
+            is_placed,
             unopened: 0,
             faults: 0,
         }
@@ -194,7 +270,7 @@ impl<R: Runtime, S: Read> Images for System<R, S> {
     fn open(&mut self, path: &str, wanted: Wanted) -> Result<Image<R>, Failure> {
         let opened = match wanted {
             Wanted::Front(most) => open(&self.rt, self.alloc, &mut self.input, path, most),
-            Wanted::Whole => open_whole(&self.rt, self.alloc, path),
+            Wanted::Whole => open_whole(&self.rt, self.alloc, path, self.is_placed),
         };
         match opened {
             Ok(kind) => Ok(Image {

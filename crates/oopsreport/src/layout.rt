@@ -131,6 +131,15 @@ fn add_params(
             .push(String::from_str(alloc, word)?)
             .map_err(AllocError::from)?;
     }
+    Ok(())
+}
+
+// Adds what a kernel's version tells of its regions: the tag of ftrace zones and the order of the zones.
+fn add_kernel(
+    alloc: Global,
+    words: &mut Vec<String>,
+    matches: &ArgMatches<'_>,
+) -> Result<(), NoPlan> {
     if let Some(version) = matches.get_str("kernel") {
         match ftrace_tag(version) {
             Some(tag) => add_tag(alloc, words, tag)?,
@@ -308,6 +317,8 @@ pub struct Asked {
     /// The folder in which records are saved.
     pub folder: Option<String>,
     pub is_coloured: bool,
+    /// Whether it is told how far a memory was read.
+    pub is_watched: bool,
 }
 
 /// How a report is written.
@@ -420,6 +431,19 @@ fn memory_by<R: Runtime>(
             let fault = anyhow!("the region at {address:#x} lies before the memory, at {base:#x}");
             Err(NoPlan::Words(fault))
         }
+    }
+}
+
+fn memory_asked<R: Runtime>(
+    rt: &R,
+    alloc: Global,
+    matches: &ArgMatches<'_>,
+    line: &KernelLine,
+    tree: &Option<Tree<'_>>,
+) -> Result<Option<Memory>, NoPlan> {
+    match matches.get_flag("memory") {
+        true => Ok(Some(memory_by(rt, alloc, matches, line, tree)?)),
+        false => Ok(None),
     }
 }
 
@@ -541,8 +565,9 @@ fn dressed_by(
 }
 
 // The folder in which records are saved, if one is named.
-fn folder_named(alloc: Global, matches: &ArgMatches<'_>) -> Result<Option<String>, AllocError> {
+fn folder_named(alloc: Global, matches: &ArgMatches<'_>) -> Result<Option<String>, NoPlan> {
     match matches.get_str("save") {
+        Some("") => Err(NoPlan::Words(anyhow!("--save names no folder"))),
         Some(folder) => Ok(Some(String::from_str(alloc, folder)?)),
         None => Ok(None),
     }
@@ -557,13 +582,12 @@ pub fn asked_by<R: Runtime>(
 ) -> Result<Asked, NoPlan> {
     let line = read_line(rt, alloc, matches)?;
     let takes = takes_storages(matches);
-    let words = all_words(alloc, matches, &line, takes)?;
+    let mut words = all_words(alloc, matches, &line, takes)?;
+    let logs = logs_by(matches, words.is_empty() && !matches.get_flag("memory"));
     let tree = read_tree(rt, alloc, matches)?;
-    let memory = match matches.get_flag("memory") {
-        true => Some(memory_by(rt, alloc, matches, &line, &tree)?),
-        false => None,
-    };
+    let memory = memory_asked(rt, alloc, matches, &line, &tree)?;
     let storages = storages_asked(&words, takes)?;
+    add_kernel(alloc, &mut words, matches)?;
     let said = said_by(matches, memory);
     let layouts = layouts_of(rt, alloc, region_words(storages, &words), &tree, &said)?;
     let lines = line_count(matches)?;
@@ -571,7 +595,6 @@ pub fn asked_by<R: Runtime>(
     let layouts = dressed_by(alloc, layouts, entry_form(matches)?, lines, &map)?;
     let format = format(matches);
     let folder = folder_named(alloc, matches)?;
-    let logs = logs_by(matches, words.is_empty() && memory.is_none());
     Ok(Asked {
         images: report_run::Asked {
             layouts,
@@ -582,9 +605,10 @@ pub fn asked_by<R: Runtime>(
             storages,
             memory: memory.map(|memory| memory.whole),
             saves: folder.is_some(),
-            counts: terminal.is_errors,
+            counts: terminal.is_errors && !terminal.is_output,
         },
         folder,
         is_coloured: format == Format::Text && is_coloured(rt, matches, terminal.is_output),
+        is_watched: terminal.is_errors,
     })
 }

@@ -42,12 +42,13 @@ fn all_paths<R: Runtime, S: Read, O: Sink, E: Sink>(
     alloc: Global,
     images: &mut System<R, S>,
     asked: &report_run::Asked,
+    is_watched: bool,
     records: &mut Named<R>,
     out: &mut O,
     paths: &[String],
 ) -> Result<u8> {
     let all = paths.len();
-    let mut watch = Progress::new(rt.clone()?, asked.counts);
+    let mut watch = Progress::new(rt.clone()?, is_watched);
     let failed = report_run::run(
         alloc, asked, paths, images, &mut watch, out, messages, records,
     );
@@ -74,6 +75,7 @@ fn all_files<R: Runtime, S: Read, E: Sink>(
             alloc,
             images,
             &asked.images,
+            asked.is_watched,
             records,
             &mut out,
             paths,
@@ -85,6 +87,7 @@ fn all_files<R: Runtime, S: Read, E: Sink>(
             alloc,
             images,
             &asked.images,
+            asked.is_watched,
             records,
             &mut out,
             paths,
@@ -129,7 +132,11 @@ fn run<R: Runtime, S: Read + Drop, E: Sink>(
     match asked_by(rt, alloc, &matches, terminal) {
         Ok(mut asked) => {
             asked.images.format = format_for(files.has_folder, asked.images.format);
-            let mut images = System::new(rt.clone()?, alloc, input);
+            let is_placed = match asked.images.memory {
+                Some(memory) => memory.place.is_some(),
+                None => false,
+            };
+            let mut images = System::new(rt.clone()?, alloc, input, is_placed);
             let mut records = Named::new(rt.clone()?, alloc, asked.folder.take());
             all_files(
                 rt,

@@ -8,8 +8,11 @@ use std::alloc::{AllocError, Global};
 /// So many bytes of a text or an image are read from a compressed file.
 const MOST: usize = 268_435_456;
 
+/// So many bytes of a gzip file are read: its text can be little longer than it.
+pub const MOST_PACKED: usize = 2 * MOST;
+
 /// How many of a file's first bytes tell by what it is compressed.
-const FRONT: usize = 6;
+pub const FRONT: usize = 6;
 
 /// Whether a file begins as a compressed one does.
 pub fn is_packed<M: Load>(file: &mut M) -> Result<bool, Failed> {
@@ -48,14 +51,22 @@ fn gunzipped(alloc: Global, bytes: &[u8]) -> Result<Vec<u8>> {
     }
 }
 
-/// What a compressed file stands for; any other bytes as they are.
-pub fn unpacked(alloc: Global, bytes: Vec<u8>) -> Result<Vec<u8>> {
-    match compression_of(&bytes) {
-        Some(Compression::Gzip) => gunzipped(alloc, &bytes),
+/// Whether a file begins as a gzip file, by its first bytes. One that is compressed otherwise is refused.
+pub fn packing_of(front: &[u8]) -> Result<bool> {
+    match compression_of(front) {
+        Some(Compression::Gzip) => Ok(true),
         Some(Compression::Zstd) => bail!("it is compressed by zstd: run zstd -d first"),
         Some(Compression::Xz) => bail!("it is compressed by xz: run xz -d first"),
         Some(Compression::Bzip2) => bail!("it is compressed by bzip2: run bzip2 -d first"),
         Some(Compression::Lz4) => bail!("it is compressed by lz4: run lz4 -d first"),
-        Some(Compression::Zlib) | None => Ok(bytes),
+        Some(Compression::Zlib) | None => Ok(false),
     }
+}
+
+/// What a gzip file stands for. Of one as long as `MOST_PACKED` the end was not read.
+pub fn unpacked(alloc: Global, bytes: &[u8]) -> Result<Vec<u8>> {
+    if bytes.len() >= MOST_PACKED {
+        bail!("it is a gzip file of more than {MOST} bytes");
+    }
+    gunzipped(alloc, bytes)
 }

@@ -25,8 +25,8 @@ pub record IsWhole (stream text : List ℕ) (most : ℕ) : Type 0 where
   pub inflates : Inflates stream text taken
   pub within : length text ≤ most
 
--- all of it, or as far as it inflates
+-- all of it, or as far as it inflates; at most so many bytes
 abbrev pub IsText : Option TextFault → List ℕ → ℕ → List ℕ → Type 0
 IsText None stream most text = IsWhole stream text most
-IsText (Some (Broken fault)) stream most text = Breaks stream fault text
+IsText (Some (Broken fault)) stream most text = Breaks stream fault text × (length text ≤ most)
 IsText (Some TooLong) stream most text = Exceeds stream most text

@@ -136,7 +136,7 @@ MixedMagicRow = mark_at Big 512 0 (67 ∷ 71 ∷ 66 ∷ 68 ∷ 0 ∷ 0 ∷ 0 ∷
 abbrev pub NoMarkRow : Type 0
 NoMarkRow = order_in (replicate 512 0) ≡ Little
 
--- a dump at 4095, where it begins behind the three ftrace zones of the row with an odd place
+-- a dump at 4095, where it begins after the three ftrace zones of the row with an odd place
 unfoldable pub odd_storage : List ℕ
 odd_storage = replicate 4095 0 ++ dump_bytes 44 0 60 3 (codes "text") ++ replicate 8137 0
 

@@ -26,7 +26,7 @@ kind_of sig =
     else (if sig == sig_of Pmsg then Some Pmsg
     else None)))
 
--- a dump has its magic number behind the zone's header
+-- a dump has its magic number after the zone's header
 abbrev pub is_whole : ByteOrder → Kind → List ℕ → Bool
 is_whole order Dump bytes = word order bytes 12 == dump_magic
 is_whole order Pmsg bytes = true

@@ -5,14 +5,12 @@ use Rattle.prz_read.specs.Saving.{SavedLogs}
 use Rattle.ramoops.specs.LiveSeen.{LiveSeen}
 use Rattle.grammar_spec.specs.declared.line.Line.{Line}
 use Rattle.grammar_spec.specs.declared.line.Line.TheVariants.{Stop, Boot, KMsg, Crash}
-use Rattle.script_spec.specs.declared.Cause.{Cause}
 use Rattle.ram_session.specs.Sessions.{Live as LiveStore, LineDone, LineFails, IsCall, KeepsKernel}
-use Rattle.ram_session.specs.Machines.{MachineRefused}
+use Rattle.ram_session.specs.Machines.{MachineFails}
 use Rattle.ram_session.specs.Playing.{Puts}
 use Rattle.ram_session.specs.declared.kernel.Kernel.{Kernel}
 use Rattle.ram_session.specs.declared.machine.Machine.TheVariants.{Live}
 use Rattle.ram_session.specs.declared.machine.LineError.{LineError}
-use Rattle.ram_session.specs.declared.machine.LineError.TheVariants.{Refused}
 use Rattle.ram_session.proofs.Machines.{live_done, live_fails}
 
 call_keeps : (line : Line) → IsCall line → KeepsKernel line
@@ -35,9 +33,7 @@ call_puts old new logs kernel line given call done = record {
   put = appends_none given;
 }
 
-pub call_refused : (old : LiveSeen) (logs : SavedLogs) (kernel : Kernel) (line : Line) (e : LineError) (cause : Cause)
-    → e ≡ Refused cause → IsCall line → LineFails (LiveStore old logs) line e
-    → MachineRefused (Live old logs kernel) line cause
-call_refused old logs kernel line e cause is call fails =
-    live_fails old logs kernel line (Refused cause) (call_keeps line call)
-    (subst (LineFails (LiveStore old logs) line) is fails)
+pub call_fails : (old : LiveSeen) (logs : SavedLogs) (kernel : Kernel) (line : Line) (e why : LineError) → e ≡ why
+    → IsCall line → LineFails (LiveStore old logs) line e → MachineFails (Live old logs kernel) line why
+call_fails old logs kernel line e why is call fails =
+    live_fails old logs kernel line why (call_keeps line call) (subst (LineFails (LiveStore old logs) line) is fails)

@@ -1,7 +1,9 @@
 -- What the kernel prints, and its crashes
 use Rattle.std.proofs.Common.{◌≡◌, ℕ, zero, suc, ◌+◌, ◌-◌, ◌<◌, ◌≤◌, Bool, true, false, nat_le, List, [], ◌∷◌, ◌++◌}
 use Rattle.std.proofs.Common.{length, Option, Some, None, Ok, Err, refl, sym, ap, ◌∙◌, arith, subst}
-use Rattle.std.specs.Prelude.{not, ◌==◌}
+use Rattle.std.specs.Prelude.{not, ◌==◌, ◌||◌, cond, is_some, Result}
+use Rattle.std.specs.Option.{option_map}
+use Rattle.std.specs.Result.{result_err}
 use Rattle.std.specs.List.{find, slice_get}
 use Rattle.std.proofs.lemmas.Option.{get_or_from_slice_get}
 use Rattle.std.proofs.lemmas.List.Quantifiers.{position-Some}
@@ -10,13 +12,21 @@ use Rattle.std.proofs.lemmas.List.Sums.{AllPass-from_list_all}
 use Rattle.std.proofs.lemmas.Bool.{leb-true, leb-false, lt-ltb, le-ltb, true≢false, and_parts}
 use Rattle.zone_spec.specs.declared.Zone.{Zone}
 use Rattle.zone_spec.specs.declared.Time.{Time}
+use Rattle.zone_spec.specs.declared.ZoneName.{ZoneName}
+use Rattle.zone_spec.specs.declared.Refusal.{Refusal}
+use Rattle.zone_spec.specs.declared.Refusal.TheVariants.{Busy as BusyThere}
+use Rattle.zone_spec.specs.Told.{Call}
 use Rattle.zone_spec.specs.declared.Kind.TheVariants.{Dump as DumpKind}
-use Rattle.zone_spec.specs.Layouts.{is_zone, zone_place}
+use Rattle.zone_spec.specs.Layouts.{IsLayout, is_zone, zone_place}
 use Rattle.zone_spec.specs.Records.{is_of}
 use Rattle.zone_spec.specs.TimeLines.{line_text}
-use Rattle.machine_spec.specs.States.{LiveZone, LiveState, Off as OffOf, Live as LiveOf}
-use Rattle.machine_spec.specs.Sound.{IsTime}
-use Rattle.machine_spec.specs.LiveZones.{Target, target_of, target_at}
+use Rattle.machine_spec.specs.States.{LiveZone, LiveState, Session, Off as OffOf, Live as LiveOf}
+use Rattle.machine_spec.specs.Sound.{IsTime, IsState}
+use Rattle.machine_spec.specs.ZoneCalls.{begun}
+use Rattle.machine_spec.specs.LiveZones.{Target, target_of, target_at, changed}
+use Rattle.machine_spec.specs.LiveCalls.{Dump as DumpAsk, call_of, asked_name, asked_zone, is_barred, begins, begin}
+use Rattle.machine_spec.specs.LiveCalls.{and_finish}
+use Rattle.machine_spec.specs.Operations.{answered}
 use Rattle.prz_read.specs.Saving.{SavedLogs}
 use Rattle.ramoops.specs.LiveSeen.{LiveSeen}
 use Rattle.kmsg_spec.specs.declared.Reason.{Reason}
@@ -25,14 +35,15 @@ use Rattle.kmsg_spec.specs.Bodies.{last_lines, body}
 use Rattle.kmsg_dump.specs.Kept.{IsLine, Keeps}
 use Rattle.grammar_spec.specs.Fields.{is_message}
 use Rattle.grammar_spec.specs.Printed.{HasFields}
-use Rattle.grammar_spec.specs.declared.line.Line.TheVariants.{KMsg, Crash, Dump}
+use Rattle.grammar_spec.specs.declared.line.Line.TheVariants.{KMsg, Crash, Dump, BeginDump}
 use Rattle.script_spec.specs.Scripts.{Kernel as KernelOf, beside, prints, crash_body, crashed, log_limit, room_in}
-use Rattle.script_spec.specs.Scripts.{dump_target, store_line, line_done}
+use Rattle.script_spec.specs.Scripts.{dump_target, store_line, line_done, refusal_cause, done_or_refused}
 use Rattle.script_spec.specs.declared.Cause.{Cause}
 use Rattle.script_spec.specs.declared.Cause.TheVariants.{TooLong, NoZone}
 use Rattle.ram_session.specs.Kernels.{StandsForKernel, DumpsAlike, left_in, first_room}
-use Rattle.ram_session.specs.Sessions.{Live as LiveStore, LineDone, LineRefused, LineFails}
-use Rattle.ram_session.specs.Machines.{MachineDone, MachineRefused, MachineFails}
+use Rattle.ram_session.specs.Sessions.{Live as LiveStore, Stands, LineDone, LineRefused, LineFails, IsWanted}
+use Rattle.ram_session.specs.Machines.{HasKernel, MachineDone, MachineRefused, MachineFails, MachineTakes}
+use Rattle.ram_session.proofs.Machines.{wanted_beside}
 use Rattle.ram_session.specs.declared.kernel.Kernel.{Kernel}
 use Rattle.ram_session.specs.declared.machine.Machine.TheVariants.{Live}
 use Rattle.ram_session.specs.declared.machine.LineError.{LineError}
@@ -251,9 +262,90 @@ pub crash_fails : (old : LiveSeen) (logs : SavedLogs) (kernel : Kernel) (reason 
     (e : LineError) → IsBody old.layout kernel reason time bytes
     → LineFails (LiveStore old logs) (Dump time false bytes) e
     → MachineFails (Live old logs kernel) (Crash reason time) e
-crash_fails old logs kernel reason time bytes Memory is fails = tt
+crash_fails old logs kernel reason time bytes Memory is fails = absurd fails.takes
 crash_fails old logs kernel reason time bytes (Refused cause) is fails =
     crash_refused old logs kernel reason time bytes cause is fails
+
+-- ---- a crash whose body finds no memory
+
+alike : {T E : Type 0} (b : Bool) (e : E) (x y : T) → result_err (cond b (Err e) (Ok x))
+    ≡ result_err (cond b (Err e) (Ok y))
+alike true e x y = refl
+alike false e x y = refl
+
+-- whether a call is refused does not stand on its bytes
+begins_alike : (layout : List Zone) (s : LiveState) (c d : Call) (barred : Bool) (o : Option Target)
+    → result_err (begins layout s c barred o) ≡ result_err (begins layout s d barred o)
+begins_alike layout s c d barred None = refl
+begins_alike layout s c d barred (Some t) = alike (barred || is_some t.live.flight) BusyThere
+    (changed layout s t (λ z zone. begun z c zone)) (changed layout s t (λ z zone. begun z d zone))
+
+made_as : (layout : List Zone) (s : LiveState) (name : ZoneName) (r : Result LiveState Refusal)
+    → result_err (done_or_refused (LiveOf s) [] (answered (and_finish layout name r)))
+    ≡ option_map refusal_cause (result_err r)
+made_as layout s name (Ok next) = refl
+made_as layout s name (Err why) = refl
+
+begun_as : (s : LiveState) (r : Result LiveState Refusal)
+    → result_err (done_or_refused (LiveOf s) [] (answered r)) ≡ option_map refusal_cause (result_err r)
+begun_as s (Ok next) = refl
+begun_as s (Err why) = refl
+
+dump_alike : (layout : List Zone) (s : LiveState) (time : Time) (bytes other : List ℕ)
+    → result_err (store_line layout (LiveOf s) (Dump time false bytes))
+    ≡ result_err (store_line layout (LiveOf s) (BeginDump time false other))
+unfolding store_line
+dump_alike layout s time bytes other =
+    let barred = is_barred layout s (DumpAsk time false bytes) in
+    let zone = asked_zone layout s (DumpAsk time false bytes) in
+    made_as layout s (asked_name s (DumpAsk time false bytes)) (begin layout s (DumpAsk time false bytes))
+    ∙ ap (option_map refusal_cause) (begins_alike layout s (call_of (DumpAsk time false bytes))
+    (call_of (DumpAsk time false other)) barred zone)
+    ∙ sym (begun_as s (begin layout s (DumpAsk time false other)))
+
+wants_unless : {T : Type 0} (r : Result T Cause) → result_err r ≡ None → IsWanted r
+wants_unless (Ok x) e = record { wants = x; is = refl }
+wants_unless (Err c) e = absurd (cc)
+
+refuses_as : {T : Type 0} (r : Result T Cause) (cause : Cause) → result_err r ≡ Some cause → r ≡ Err cause
+refuses_as (Ok x) cause e = absurd (cc)
+refuses_as (Err c) cause e = let same : c ≡ cause = cc in ap Err same
+
+-- a dump that begins without a body tells that the crash is not refused
+pub crash_takes : (old new : LiveSeen) (logs : SavedLogs) (kernel : Kernel) (reason : ℕ) (time : Time)
+    (none : List ℕ) → LineDone (LiveStore old logs) (BeginDump time false none) (LiveStore new logs) []
+    → MachineTakes (Live old logs kernel) (Crash reason time)
+crash_takes old new logs kernel reason time none made = record { takes = tt; wanted = by }
+  where
+    by : (layout : List Zone) (mem : ℕ) (s : Session) (k : KernelOf) → IsLayout layout mem → DumpsAlike layout
+        → Stands layout mem (LiveStore old logs) s → HasKernel (Live old logs kernel) k → IsState layout mem s
+        → IsWanted (line_done layout s k (Crash reason time))
+    by layout mem (OffOf s) k lies alike stands has state = absurd stands
+    by layout mem (LiveOf s) k lies alike stands has state =
+        let body = crash_body layout s k reason time in
+        wanted_beside (crashed k) (line_done layout (LiveOf s) k (Crash reason time))
+        (store_line layout (LiveOf s) (Dump time false body)) (crash_is layout s k reason time)
+        (wants_unless (store_line layout (LiveOf s) (Dump time false body))
+        (dump_alike layout s time body none ∙ ap result_err (made layout mem (LiveOf s) lies stands state).done))
+
+unbegun_refused : (old : LiveSeen) (logs : SavedLogs) (kernel : Kernel) (reason : ℕ) (time : Time) (none : List ℕ)
+    (cause : Cause) → LineRefused (LiveStore old logs) (BeginDump time false none) cause
+    → MachineRefused (Live old logs kernel) (Crash reason time) cause
+unbegun_refused old logs kernel reason time none cause fails layout mem (OffOf s) k lies alike stands has state =
+    absurd stands
+unbegun_refused old logs kernel reason time none cause fails layout mem (LiveOf s) k lies alike stands has state =
+    let body = crash_body layout s k reason time in
+    crash_is layout s k reason time
+    ∙ ap (beside (crashed k)) (refuses_as (store_line layout (LiveOf s) (Dump time false body)) cause
+    (dump_alike layout s time body none ∙ ap result_err (fails layout mem (LiveOf s) lies stands state)))
+
+-- and one that is refused tells why the crash is
+pub crash_unbegun : (old : LiveSeen) (logs : SavedLogs) (kernel : Kernel) (reason : ℕ) (time : Time) (none : List ℕ)
+    (e : LineError) → LineFails (LiveStore old logs) (BeginDump time false none) e
+    → MachineFails (Live old logs kernel) (Crash reason time) e
+crash_unbegun old logs kernel reason time none Memory fails = absurd fails.takes
+crash_unbegun old logs kernel reason time none (Refused cause) fails =
+    unbegun_refused old logs kernel reason time none cause fails
 
 -- ---- the fields of such lines
 

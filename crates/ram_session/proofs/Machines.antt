@@ -1,5 +1,5 @@
 -- Lines of the store as lines of a machine
-use Rattle.std.proofs.Common.{◌≡◌, ◌≢◌, ℕ, List, [], refl, ap, ◌∙◌}
+use Rattle.std.proofs.Common.{◌≡◌, ◌≢◌, ℕ, List, [], Result, refl, ap, ◌∙◌}
 use Rattle.zone_spec.specs.declared.Zone.{Zone}
 use Rattle.zone_spec.specs.declared.Time.{Time}
 use Rattle.machine_spec.specs.States.{Session, Off as OffOf, Live as LiveOf}
@@ -8,13 +8,14 @@ use Rattle.ramoops.specs.OffSeen.{OffSeen}
 use Rattle.ramoops.specs.LiveSeen.{LiveSeen}
 use Rattle.grammar_spec.specs.declared.line.Line.{Line}
 use Rattle.grammar_spec.specs.declared.line.Line.TheVariants.{Stop, Boot, KMsg, Crash}
-use Rattle.script_spec.specs.Scripts.{Kernel as KernelOf, new_kernel, beside, store_line, line_done}
+use Rattle.script_spec.specs.Scripts.{StoreDone, Done, Kernel as KernelOf, new_kernel, beside, store_line, line_done}
 use Rattle.script_spec.specs.declared.Cause.{Cause}
 use Rattle.script_spec.specs.declared.Cause.TheVariants.{IsLive}
 use Rattle.ram_session.specs.Kernels.{StandsForKernel}
 use Rattle.ram_session.specs.Sessions.{Off as OffStore, Live as LiveStore, LineDone, LineRefused, LineFails}
-use Rattle.ram_session.specs.Sessions.{KeepsKernel}
-use Rattle.ram_session.specs.Machines.{MachineDone, MachineRefused, MachineFails}
+use Rattle.ram_session.specs.Sessions.{KeepsKernel, IsWanted, LineTakes}
+use Rattle.ram_session.specs.Machines.{MachineDone, MachineRefused, MachineFails, MachineTakes}
+use Rattle.ram_session.proofs.StateLines.{boot_takes}
 use Rattle.ram_session.specs.declared.kernel.Kernel.{Kernel}
 use Rattle.ram_session.specs.declared.machine.Machine.TheVariants.{Off, Live}
 use Rattle.ram_session.specs.declared.machine.LineError.{LineError}
@@ -38,6 +39,14 @@ keeps_unless (KMsg b) p q r t = absurd (r b refl)
 keeps_unless (Crash u v) p q r t = absurd (t u v refl)
 keeps_unless line p q r t = tt
 
+-- a line is not refused if that of the store is not
+pub wanted_beside : (kernel : KernelOf) (r : Result Done Cause) (q : Result StoreDone Cause) → r ≡ beside kernel q
+    → IsWanted q → IsWanted r
+wanted_beside kernel r q e h = record {
+  wants = record { session = h.wants.session; kernel = kernel; text = h.wants.text };
+  is = e ∙ ap (beside kernel) h.is;
+}
+
 -- ---- off
 
 pub off_done : (old new : OffSeen) (line : Line) (text : List ℕ) → KeepsKernel line
@@ -59,7 +68,12 @@ off_refused old line cause keeps fails layout mem s k lies alike stands has stat
 
 pub off_fails : (old : OffSeen) (line : Line) (e : LineError) → KeepsKernel line → LineFails (OffStore old) line e
     → MachineFails (Off old) line e
-off_fails old line Memory keeps fails = fails
+off_fails old line Memory keeps fails = record {
+  takes = fails.takes;
+  wanted = λ layout mem s k lies alike stands has state.
+      wanted_beside k (line_done layout s k line) (store_line layout s line) (kept layout s k line keeps)
+      (fails.wanted layout mem s lies stands state);
+}
 off_fails old line (Refused cause) keeps fails = off_refused old line cause keeps fails
 
 boot_is : (layout : List Zone) (s : Session) (k : KernelOf)
@@ -81,9 +95,18 @@ boot_done old live logs kernel text done new layout mem s k lies alike stands ha
     }
 
 pub boot_fails : (old : OffSeen) (e : LineError) → LineFails (OffStore old) Boot e → MachineFails (Off old) Boot e
-boot_fails old Memory fails = tt
+boot_fails old Memory fails = record {
+  takes = tt;
+  wanted = λ layout mem s k lies alike stands has state.
+      wanted_beside new_kernel (line_done layout s k Boot) (store_line layout s Boot) (boot_is layout s k)
+      (fails.wanted layout mem s lies stands state);
+}
 boot_fails old (Refused cause) fails = λ layout mem s k lies alike stands has state.
     boot_is layout s k ∙ ap (beside new_kernel) (fails layout mem s lies stands state)
+
+-- memory for its kernel
+pub kernel_takes : (old : OffSeen) → MachineTakes (Off old) Boot
+kernel_takes old = boot_fails old Memory (boot_takes old)
 
 -- ---- live
 
@@ -102,7 +125,12 @@ live_done old new logs logs' kernel line text keeps done layout mem s k lies ali
 
 pub live_fails : (old : LiveSeen) (logs : SavedLogs) (kernel : Kernel) (line : Line) (e : LineError)
     → KeepsKernel line → LineFails (LiveStore old logs) line e → MachineFails (Live old logs kernel) line e
-live_fails old logs kernel line Memory keeps fails = fails
+live_fails old logs kernel line Memory keeps fails = record {
+  takes = fails.takes;
+  wanted = λ layout mem s k lies alike stands has state.
+      wanted_beside k (line_done layout s k line) (store_line layout s line) (kept layout s k line keeps)
+      (fails.wanted layout mem s lies stands state);
+}
 live_fails old logs kernel line (Refused cause) keeps fails = λ layout mem s k lies alike stands has state.
     kept layout s k line keeps ∙ ap (beside k) (fails layout mem s lies stands state)
 

@@ -1,7 +1,7 @@
 -- Lines that speak of one record
 use Rattle.std.proofs.Common.{◌≡◌, ℕ, Bool, true, false, cond, List, [], ◌∷◌, Option, Some, None, Ok, refl, sym, ap}
 use Rattle.std.proofs.Common.{◌∙◌}
-use Rattle.std.specs.Prelude.{bytes_eq, filter}
+use Rattle.std.specs.Prelude.{bytes_eq, filter, is_some, IsSome}
 use Rattle.std.specs.Option.{option_map}
 use Rattle.std.proofs.lemmas.Bool.{true≢false}
 use Rattle.std.proofs.lemmas.Bool.Decides.{Decides-eqb}
@@ -20,7 +20,8 @@ use Rattle.ram_session.proofs.RecordNames.{same-name}
 use Rattle.script_spec.specs.Texts.{extract_text}
 use Rattle.script_spec.specs.Scripts.{store_line, named, extracts_of}
 use Rattle.script_spec.specs.declared.Cause.TheVariants.{NoRecord}
-use Rattle.ram_session.specs.Sessions.{Live, LineDone, LineRefused}
+use Rattle.ram_session.specs.Sessions.{Live, LineDone, LineRefused, IsWanted, LineTakes}
+use Rattle.ram_session.proofs.StateLines.{live_takes, is_wanted}
 
 -- ---- the record whose name has a text
 
@@ -94,6 +95,15 @@ pub none_is : (zones : List Saved) (text : List ℕ) → None ≡ option_map nam
     → named zones text ≡ None
 none_is zones text e = nothing (named zones text) e
 
+something : (o : Option Listed) (n : Name) → Some n ≡ option_map name_of o → (r : Listed) × (o ≡ Some r)
+something None n e = absurd (cc)
+something (Some r) n e = (r, refl)
+
+-- some record has it
+pub some_is : (zones : List Saved) (text : List ℕ) (n : Name) → Some n ≡ option_map name_of (named zones text)
+    → IsSome (named zones text)
+some_is zones text n e = ap is_some (something (named zones text) n e).1
+
 pub given_none : (zones : List Saved) (text : List ℕ) (n : Name) → Some n ≡ option_map name_of (named zones text)
     → record_of zones n ≡ None → named zones text ≡ None
 given_none zones text n e none = record_is zones text n e ∙ none
@@ -115,6 +125,17 @@ put : (layout : List Zone) (s : LiveState) (o : Option Listed) (text : List ℕ)
     → extracts_of layout s o ≡ Ok (record { session = LiveOf s; text = text })
 put layout s None text e = absurd (cc)
 put layout s (Some r) text e = let same : extract_text (saved_logs layout s) r ≡ text = cc in rw same refl
+
+extracted : (layout : List Zone) (s : LiveState) (o : Option Listed) (r : Listed) → o ≡ Some r
+    → IsWanted (extracts_of layout s o)
+extracted layout s o r e = rw e (is_wanted (extracts_of layout s (Some r))
+    (record { session = LiveOf s; text = extract_text (saved_logs layout s) r }) refl)
+
+pub extract_takes : (live : LiveSeen) (logs : SavedLogs) (name : List ℕ) (n : Name)
+    → Some n ≡ option_map name_of (named (saved logs) name) → LineTakes (Live live logs) (Extract name)
+extract_takes live logs name n is = live_takes live logs (Extract name) tt (λ layout s same.
+    let r = something (named (saved_logs layout s) name) n (rw same at is) in
+    rw (extract_line layout s name) (extracted layout s (named (saved_logs layout s) name) r.0 r.1))
 
 pub extract_done : (live : LiveSeen) (logs : SavedLogs) (name : List ℕ) (n : Name) (text : List ℕ)
     → Some n ≡ option_map name_of (named (saved logs) name)

@@ -12,7 +12,7 @@ use Rattle.script_spec.specs.declared.LineStop.{LineStop}
 use Rattle.script_spec.specs.declared.LineStop.TheVariants.{Memory, StoreFault, SinkFault, Refused}
 use Rattle.script_laws.specs.Scripts.{ScriptStatesAreSound}
 use Rattle.script_spec.specs.Playing.{PlayedTo, PlayStop}
-use Rattle.script_laws.proofs.Play.{played_none, played_on, played_all, stopped_memory, stopped_refused, stopped_put}
+use Rattle.script_laws.proofs.Play.{played_none, played_on, played_all, stopped_taking, stopped_refused, stopped_put}
 use Rattle.ram_session.specs.Sessions.{Stands}
 use Rattle.ram_session.specs.Machines.{store_of, HasKernel}
 use Rattle.ram_session.specs.Playing.{Puts, LineStops, StandsFresh, PlaysAll}
@@ -73,9 +73,12 @@ module _ (sound : ScriptStatesAreSound) (first : Machine) (lines : List Line) (f
       → LineStops stop machine line (i + 1) b c g h → (off : OffSeen) → first ≡ Off off
       → (layout : List Zone) (mem : ℕ) (image : List ℕ) → StandsFresh layout mem image off
       → PlayStop stop layout image lines a c g0 h
-  plays_stop Memory c g g0 h le same off start layout mem image f =
+  plays_stop Memory c g g0 h le stop off start layout mem image f =
       let p = so_far off start layout mem image f in
-      rw same (stopped_memory layout image lines i p.session p.kernel a b p.played)
+      let w = stop.1.wanted layout mem p.session p.kernel f.lies f.alike p.stands p.has
+      (state off layout mem image f p) in
+      rw stop.0 (stopped_taking layout image lines i line w.wants p.session p.kernel a b below is p.played w.is
+      stop.1.takes)
   plays_stop SinkFault c g g0 h le put off start layout mem image f =
       let p = so_far off start layout mem image f in
       let l = put.1.done layout mem p.session p.kernel f.lies f.alike p.stands p.has

@@ -1,8 +1,10 @@
 -- Lines that boot, stop, list, or do nothing
-use Rattle.std.proofs.Common.{◌≡◌, ℕ, List, [], Ok, refl, ◌∙◌}
+use Rattle.std.proofs.Common.{◌≡◌, ℕ, List, [], Result, Ok, refl, ◌∙◌}
 use Rattle.zone_spec.specs.declared.Zone.{Zone}
+use Rattle.zone_spec.specs.Layouts.{IsLayout}
 use Rattle.machine_spec.specs.States.{OffState, LiveState, Session, Off as OffOf, Live as LiveOf}
 use Rattle.machine_spec.specs.Boot.{booted}
+use Rattle.machine_spec.specs.Sound.{IsState}
 use Rattle.machine_spec.specs.Stop.{stopped}
 use Rattle.machine_spec.specs.Report.{ZoneReport, report}
 use Rattle.machine_spec.specs.Erasures.{saved_logs}
@@ -12,9 +14,38 @@ use Rattle.ramoops.specs.LiveSeen.{LiveSeen, StandsLive}
 use Rattle.ramoops.specs.Booted.{Booted, BootedInPart}
 use Rattle.machine_spec.specs.BootPart.{boot_parted, boot_made}
 use Rattle.grammar_spec.specs.declared.line.Line.TheVariants.{Blank, Boot, BootPart, Stop, List as ListLine}
+use Rattle.grammar_spec.specs.declared.line.Line.{Line}
 use Rattle.script_spec.specs.Texts.{boot_text, part_text, listing}
 use Rattle.script_spec.specs.Scripts.{store_line}
-use Rattle.ram_session.specs.Sessions.{StoreSeen, Off, Live, LineDone}
+use Rattle.script_spec.specs.Playing.{TakesMemory}
+use Rattle.script_spec.specs.declared.Cause.{Cause}
+use Rattle.ram_session.specs.Sessions.{StoreSeen, Off, Live, Stands, LineDone, IsWanted, LineTakes}
+
+-- ---- a line that takes memory and is not refused
+
+pub is_wanted : {T : Type 0} (wanted : Result T Cause) (wants : T) → wanted ≡ Ok wants → IsWanted wanted
+is_wanted wanted wants e = record { wants = wants; is = e }
+
+off_takes : (old : OffSeen) (line : Line) → TakesMemory line
+    → ((layout : List Zone) (s : OffState) → IsWanted (store_line layout (OffOf s) line)) → LineTakes (Off old) line
+off_takes old line takes is = record { takes = takes; wanted = by }
+  where
+    by : (layout : List Zone) (mem : ℕ) (s : Session) → IsLayout layout mem → Stands layout mem (Off old) s
+        → IsState layout mem s → IsWanted (store_line layout s line)
+    by layout mem (OffOf s) lies stands state = is layout s
+    by layout mem (LiveOf s) lies stands state = absurd stands
+
+pub live_takes : (live : LiveSeen) (logs : SavedLogs) (line : Line) → TakesMemory line
+    → ((layout : List Zone) (s : LiveState) → saved logs ≡ saved_logs layout s
+    → IsWanted (store_line layout (LiveOf s) line)) → LineTakes (Live live logs) line
+live_takes live logs line takes is = record { takes = takes; wanted = by }
+  where
+    by : (layout : List Zone) (mem : ℕ) (s : Session) → IsLayout layout mem → Stands layout mem (Live live logs) s
+        → IsState layout mem s → IsWanted (store_line layout s line)
+    by layout mem (OffOf s) lies stands state = absurd stands
+    by layout mem (LiveOf s) lies stands state = is layout s stands.1
+
+-- ---- the lines
 
 boot_line : (layout : List Zone) (s : OffState) → store_line layout (OffOf s) Boot
     ≡ Ok (record {
@@ -24,6 +55,9 @@ boot_line : (layout : List Zone) (s : OffState) → store_line layout (OffOf s) 
     })
 unfolding store_line
 boot_line layout s = refl
+
+pub boot_takes : (old : OffSeen) → LineTakes (Off old) Boot
+boot_takes old = off_takes old Boot tt (λ layout s. is_wanted _ _ (boot_line layout s))
 
 pub boot_done : (old : OffSeen) (live : LiveSeen) (logs : SavedLogs) (reports : List ZoneReport) (text : List ℕ)
     → ((layout : List Zone) (mem : ℕ) (s : OffState) → StandsOff layout mem old s
@@ -53,6 +87,9 @@ list_line : (layout : List Zone) (s : LiveState) → store_line layout (LiveOf s
 unfolding store_line
 list_line layout s = refl
 
+pub list_takes : (live : LiveSeen) (logs : SavedLogs) → LineTakes (Live live logs) ListLine
+list_takes live logs = live_takes live logs ListLine tt (λ layout s same. is_wanted _ _ (list_line layout s))
+
 pub list_done : (live : LiveSeen) (logs : SavedLogs) (text : List ℕ) → text ≡ listing (saved logs)
     → LineDone (Live live logs) ListLine (Live live logs) text
 list_done live logs text same layout mem (OffOf s) lies stands state = absurd stands
@@ -74,6 +111,9 @@ part_line : (layout : List Zone) (s : OffState) (limit : ℕ)
     })
 unfolding store_line
 part_line layout s limit = refl
+
+pub part_takes : (old : OffSeen) (limit : ℕ) → LineTakes (Off old) (BootPart limit)
+part_takes old limit = off_takes old (BootPart limit) tt (λ layout s. is_wanted _ _ (part_line layout s limit))
 
 pub part_done : (old new : OffSeen) (limit given made : ℕ) (text : List ℕ) → given ≡ limit
     → ((layout : List Zone) (mem : ℕ) (s : OffState) → StandsOff layout mem old s

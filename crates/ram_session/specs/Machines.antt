@@ -7,9 +7,10 @@ use Rattle.machine_spec.specs.Sound.{IsState}
 use Rattle.grammar_spec.specs.Fields.{Text}
 use Rattle.grammar_spec.specs.declared.line.Line.{Line}
 use Rattle.script_spec.specs.Scripts.{Kernel as KernelOf, new_kernel, line_done}
+use Rattle.script_spec.specs.Playing.{TakesMemory}
 use Rattle.script_spec.specs.declared.Cause.{Cause}
 use Rattle.ram_session.specs.Kernels.{StandsForKernel, DumpsAlike}
-use Rattle.ram_session.specs.Sessions.{StoreSeen, Off as OffStore, Live as LiveStore, Stands, TakesMemory}
+use Rattle.ram_session.specs.Sessions.{StoreSeen, Off as OffStore, Live as LiveStore, Stands, IsWanted}
 use Rattle.ram_session.specs.declared.machine.Machine.{Machine}
 use Rattle.ram_session.specs.declared.machine.Machine.TheVariants.{Off, Live}
 use Rattle.ram_session.specs.declared.machine.LineError.{LineError}
@@ -54,7 +55,14 @@ MachineRefused old line cause = (layout : List Zone) (mem : ℕ) (s : Session) (
     → DumpsAlike layout → Stands layout mem (store_of old) s → HasKernel old k → IsState layout mem s
     → line_done layout s k line ≡ Err cause
 
+-- a line takes memory, and is not refused
+pub record MachineTakes (old : Machine) (line : Line) : Type 0 where
+  pub takes : TakesMemory line
+  pub wanted : (layout : List Zone) (mem : ℕ) (s : Session) (k : KernelOf) → IsLayout layout mem → DumpsAlike layout
+      → Stands layout mem (store_of old) s → HasKernel old k → IsState layout mem s
+      → IsWanted (line_done layout s k line)
+
 -- why a line was not done
 abbrev pub MachineFails : Machine → Line → LineError → Type 0
-MachineFails old line Memory = TakesMemory line
+MachineFails old line Memory = MachineTakes old line
 MachineFails old line (Refused cause) = MachineRefused old line cause

@@ -15,7 +15,7 @@ use Rattle.script_spec.specs.declared.LineStop.TheVariants.{Memory, StoreFault, 
 use Rattle.script_spec.specs.Playing.{Played, PlayStop}
 use Rattle.ram_session.specs.Sessions.{Stands}
 use Rattle.ram_session.specs.Kernels.{DumpsAlike}
-use Rattle.ram_session.specs.Machines.{store_of, MachineDone, MachineRefused}
+use Rattle.ram_session.specs.Machines.{store_of, MachineDone, MachineRefused, MachineTakes}
 use Rattle.ram_session.specs.declared.machine.Machine.{Machine}
 
 -- a line was done and its text put, whole or in part
@@ -32,7 +32,7 @@ pub record PutsPart (old : Machine) (line : Line) (given given' : Option (List �
 
 -- why a line of this number was not done or not put
 abbrev pub LineStops : LineStop → Machine → Line → ℕ → Option (List ℕ) → Option (List ℕ) → ℕ → ℕ → Type 0
-LineStops Memory old line number given given' faults faults' = given' ≡ given
+LineStops Memory old line number given given' faults faults' = (given' ≡ given) × MachineTakes old line
 LineStops StoreFault old line number given given' faults faults' = ⊥
 LineStops SinkFault old line number given given' faults faults' = Rose faults faults' × PutsPart old line given given'
 LineStops (Refused n cause) old line number given given' faults faults' =

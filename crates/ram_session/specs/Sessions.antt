@@ -1,5 +1,5 @@
 -- A script's store, and the states of a session that it stands for
-use Rattle.std.specs.Prelude.{◌≡◌, ⊤, ℕ, List, Ok, Err}
+use Rattle.std.specs.Prelude.{◌≡◌, ⊤, ℕ, List, Result, Ok, Err}
 use Rattle.zone_spec.specs.declared.Zone.{Zone}
 use Rattle.zone_spec.specs.Layouts.{IsLayout}
 use Rattle.machine_spec.specs.States.{Session, Off as OffOf, Live as LiveOf}
@@ -12,9 +12,9 @@ use Rattle.ramoops.specs.LiveSeen.{LiveSeen, StandsLive}
 use Rattle.grammar_spec.specs.Fields.{Text}
 use Rattle.grammar_spec.specs.declared.line.Line.{Line}
 use Rattle.grammar_spec.specs.declared.line.Line.TheVariants.{Write, Dump, BeginWrite, BeginErase, BeginDump, Step}
-use Rattle.grammar_spec.specs.declared.line.Line.TheVariants.{Finish, KMsg, Crash, Boot, BootPart, Stop}
-use Rattle.grammar_spec.specs.declared.line.Line.TheVariants.{List as ListLine, Extract}
+use Rattle.grammar_spec.specs.declared.line.Line.TheVariants.{Finish, KMsg, Crash, Boot, Stop}
 use Rattle.script_spec.specs.Scripts.{store_line}
+use Rattle.script_spec.specs.Playing.{TakesMemory}
 use Rattle.script_spec.specs.declared.Cause.{Cause}
 use Rattle.ram_session.specs.declared.machine.LineError.{LineError}
 use Rattle.ram_session.specs.declared.machine.LineError.TheVariants.{Memory, Refused}
@@ -48,18 +48,20 @@ abbrev pub LineRefused : StoreSeen → Line → Cause → Type 0
 LineRefused old line cause = (layout : List Zone) (mem : ℕ) (s : Session) → IsLayout layout mem
     → Stands layout mem old s → IsState layout mem s → store_line layout s line ≡ Err cause
 
--- a line that takes memory: a boot, whole or in part, a text of records, the body of a crash
-abbrev pub TakesMemory : Line → Type 0
-TakesMemory Boot = ⊤
-TakesMemory (BootPart limit) = ⊤
-TakesMemory ListLine = ⊤
-TakesMemory (Extract name) = ⊤
-TakesMemory (Crash reason time) = ⊤
-TakesMemory other = ⊥
+-- what is wanted is not refused
+pub record IsWanted {T : Type 0} (wanted : Result T Cause) : Type 0 where
+  pub wants : T
+  pub is : wanted ≡ Ok wants
 
--- why a line was not done
+-- a line takes memory, and is not refused
+pub record LineTakes (old : StoreSeen) (line : Line) : Type 0 where
+  pub takes : TakesMemory line
+  pub wanted : (layout : List Zone) (mem : ℕ) (s : Session) → IsLayout layout mem → Stands layout mem old s
+      → IsState layout mem s → IsWanted (store_line layout s line)
+
+-- why a line was not done: memory was refused only to one that takes it, and that is not refused itself
 abbrev pub LineFails : StoreSeen → Line → LineError → Type 0
-LineFails old line Memory = TakesMemory line
+LineFails old line Memory = LineTakes old line
 LineFails old line (Refused cause) = LineRefused old line cause
 
 -- a line of a call

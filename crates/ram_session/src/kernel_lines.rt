@@ -1,5 +1,5 @@
 // Lines of the kernel: what it prints, and its crashes.
-ghost use Rattle.std.specs.Prelude.{◌≡◌, ◌+◌, ◌<◌, ◌≤◌, ◌^◌, [], OnErr, MatchResult};
+ghost use Rattle.std.specs.Prelude.{◌≡◌, ℕ, ◌+◌, ◌<◌, ◌≤◌, ◌^◌, [], OnErr, MatchResult};
 ghost use Rattle.std.specs.List.{find};
 ghost use Rattle.zone_spec.specs.declared.Zone.{Zone as AZone};
 ghost use Rattle.zone_spec.specs.Records.{is_of};
@@ -11,16 +11,19 @@ ghost use Rattle.kmsg_dump.specs.Kept.{IsLine};
 ghost use Rattle.grammar_spec.specs.declared.line.Line.TheVariants.{KMsg, Crash};
 ghost use Rattle.ram_session.specs.Kernels.{first_room};
 ghost use Rattle.ram_session.specs.Machines.{MachineDone, MachineFails};
+ghost use Rattle.ram_session.specs.declared.kernel.Kernel.{Kernel as AKernel};
 ghost use Rattle.ram_session.specs.declared.machine.Machine.TheVariants.{Live as LiveMachine};
 
 use crate::Kernel;
-use crate::live_lines::dump;
+use crate::live_lines::{begin_dump, dump};
 use crate::machine::LineError;
 use arrayvec::ArrayString;
 use dump_records::line;
 use kmsg_dump::Reason;
+use outside::Bytes;
 use ramoops::Live;
 use script_spec::Cause;
+use std::alloc::Global;
 use zone_spec::{Kind, Time, Zone};
 
 /// A line that the kernel prints, given without its newline.
@@ -68,8 +71,28 @@ fn body_room(zones: &[Zone], time: Time) -> u32
     }
 }
 
-/// A crash: a dump of the message log, made whole. A refused one is not counted.
-pub fn crash(live: &mut Live, kernel: &mut Kernel, reason: u32, time: Time) -> Result<(), LineError>
+// Why a crash is not done if its body finds no memory. A dump is refused or not whatever its body is, so one that is
+// begun without a body tells.
+fn no_body(alloc: Global, live: &mut Live, time: Time) -> LineError
+    requires { IsTime time }
+    ensures { (logs : SavedLogs) (kernel : AKernel) (reason : ℕ)
+        → MachineFails (LiveMachine live.old logs kernel) (Crash reason time) result }
+{
+    match begin_dump(live, time, false, Bytes::empty(alloc)) {
+        Ok(()) => LineError::Memory,
+        Err(e) => e,
+    }
+}
+
+/// A crash: a dump of the message log, made whole. A refused one is not counted; it is refused also if there is no memory
+/// for its body.
+pub fn crash(
+    alloc: Global,
+    live: &mut Live,
+    kernel: &mut Kernel,
+    reason: u32,
+    time: Time,
+) -> Result<(), LineError>
     requires time { IsTime time }
     requires few { kernel.old.crashes + 1 < 2 ^ 32 }
     ensures done { (logs : SavedLogs) → MatchResult result
@@ -81,7 +104,10 @@ pub fn crash(live: &mut Live, kernel: &mut Kernel, reason: u32, time: Time) -> R
 {
     let count = kernel.crashes + 1;
     let room = body_room(live.zones(), time);
-    let body = kernel.log.body(Reason::of_number(reason), count, room)?;
+    let body = match kernel.log.body(Reason::of_number(reason), count, room) {
+        Ok(body) => body,
+        Err(_) => return Err(no_body(alloc, live, time)),
+    };
     match dump(live, time, false, body) {
         Ok(()) => {
             kernel.crashes = count;

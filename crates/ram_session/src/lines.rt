@@ -49,7 +49,7 @@ pub(crate) fn do_call(live: &mut Live, line: Line) -> Result<(), LineError>
 }
 
 // A line of a live store that leaves the kernel as it is.
-#[tactic(auto, using(crate::proofs::AnyLines::waits_for_stop, crate::proofs::AnyLines::elsewhere_live, crate::proofs::StateLines::blank_done, crate::proofs::EraseLines::erase_done, crate::proofs::EraseLines::erase_refused))]
+#[tactic(auto, using(crate::proofs::AnyLines::waits_for_stop, crate::proofs::AnyLines::elsewhere_live, crate::proofs::StateLines::blank_done, crate::proofs::StateLines::list_takes, crate::proofs::EraseLines::erase_done, crate::proofs::EraseLines::erase_refused))]
 fn do_store(
     alloc: Global,
     live: &mut Live,
@@ -102,7 +102,7 @@ fn do_live(
             Err(e) => Err(e),
         },
         Line::Crash(reason, time) => {
-            match kernel_lines::crash(&mut live, &mut kernel, reason, time) {
+            match kernel_lines::crash(alloc, &mut live, &mut kernel, reason, time) {
                 Ok(()) => Ok((Machine::Live(live, logs, kernel), Vec::new(alloc))),
                 Err(e) => Err(e),
             }
@@ -115,7 +115,7 @@ fn do_live(
 }
 
 // A boot of the store and its kernel.
-#[tactic(auto, using(crate::proofs::Machines::boot_done, crate::proofs::Machines::boot_fails))]
+#[tactic(auto, using(crate::proofs::Machines::boot_done, crate::proofs::Machines::boot_fails, crate::proofs::Machines::kernel_takes))]
 fn boot(alloc: Global, off: Off) -> Result<(Machine, Vec<u8>), LineError>
     ensures done { MatchResult result (λ r. MachineDone (OffMachine off) Boot r.0 r.1.items)
         (MachineFails (OffMachine off) Boot) }

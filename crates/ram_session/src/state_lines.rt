@@ -11,7 +11,7 @@ use ramoops::{Live, Off};
 use std::alloc::{AllocError, Global};
 
 /// A boot, with the text of what it reads.
-#[tactic(auto, using(crate::proofs::StateLines::boot_done))]
+#[tactic(auto, using(crate::proofs::StateLines::boot_done, crate::proofs::StateLines::boot_takes))]
 pub fn boot(alloc: Global, off: Off) -> Result<(Live, Logs, Vec<u8>), LineError>
     ensures { MatchResult result (λ r. LineDone (OffStore off) Boot (LiveStore r.0 r.1) r.2.items)
         (LineFails (OffStore off) Boot) }
@@ -25,7 +25,7 @@ pub fn boot(alloc: Global, off: Off) -> Result<(Live, Logs, Vec<u8>), LineError>
 }
 
 /// A boot that is stopped after so many stores, or after its last.
-#[tactic(auto, using(crate::proofs::StateLines::part_done))]
+#[tactic(auto, using(crate::proofs::StateLines::part_done, crate::proofs::StateLines::part_takes))]
 pub fn boot_part(alloc: Global, off: Off, limit: u32) -> Result<(Off, Vec<u8>), LineError>
     ensures { MatchResult result (λ r. LineDone (OffStore off) (BootPart limit) (OffStore r.0) r.1.items)
         (LineFails (OffStore off) (BootPart limit)) }

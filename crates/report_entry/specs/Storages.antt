@@ -6,7 +6,7 @@ use Rattle.std.specs.declared.alloc.Global.{Global}
 use Rattle.grammar_spec.specs.declared.faults.ParamFault.{ParamFault}
 use Rattle.kernel_line.specs.declared.layout.Module.TheVariants.{PstoreBlk}
 use Rattle.kernel_line.specs.declared.words.LineFault.{LineFault}
-use Rattle.kernel_line.specs.Line.{is_of, IsFaultAmong}
+use Rattle.kernel_line.specs.Line.{is_of, IsFaultBefore}
 use Rattle.region_report.specs.Reports.{ReportHeld}
 use Rattle.report_tool.specs.declared.showing.Format.{Format}
 use Rattle.psz_spec.specs.declared.Sizes.{Sizes}
@@ -35,7 +35,7 @@ with_storage_words words line =
 -- why they were not added
 pub record IsLineFault (words line : List (List ℕ)) (fault : LineFault) : Type 0 where
   pub taken : list_all is_of_storage words ≡ true
-  pub fault_is : IsFaultAmong PstoreBlk line fault
+  pub fault_is : IsFaultBefore PstoreBlk line words fault
 
 -- by a device tree none is a storage
 abbrev pub storages_in : List (String Global) → List ℕ → Result Storages ParamFault

@@ -16,5 +16,5 @@ pub use hints::{best_hint, taken_hint};
 pub use laying::{Layouts, LayoutsFault, NoLayouts, Place, Said, layouts_by, tree_fault};
 pub use memory::{Image, Text};
 pub use reports::{HintedPlan, Refusal, plan_found};
-pub use storages::{storages_in, with_storage_words};
+pub use storages::{add_each, storages_in, with_storage_words};
 pub use words::{WordsFault, fill, read_some_words, read_words_of};

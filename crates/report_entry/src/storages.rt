@@ -1,5 +1,5 @@
 // Which images are storages of the kernel's pstore_zone, by words, and the report of one.
-ghost use Rattle.std.specs.Prelude.{◌≡◌, ◌++◌, Some, IfOk, IfErr, OnOk, MatchResult};
+ghost use Rattle.std.specs.Prelude.{◌≡◌, ◌<◌, ◌++◌, length, Some, IfOk, IfErr, OnOk, OnErr, MatchResult};
 ghost use Rattle.std.specs.List.{list_all};
 ghost use Rattle.grammar_spec.specs.Words.{texts};
 ghost use Rattle.storage_words.specs.Words.{is_of_storage as is_of, gives_size};
@@ -36,8 +36,10 @@ fn are_of_storage(words: &[String]) -> bool
     give_sizes(words)
 }
 
-fn add_each(words: &mut Vec<String>, mut more: Vec<String>) -> Result<(), AllocError>
-    ensures { OnOk result (texts words.new.items ≡ texts words.old.items ++ texts more.items) }
+/// Appends words to others. Takes no memory if there are none.
+pub fn add_each(words: &mut Vec<String>, mut more: Vec<String>) -> Result<(), AllocError>
+    ensures ok { OnOk result (texts words.new.items ≡ texts words.old.items ++ texts more.items) }
+    ensures some { OnErr result (0 < length (texts more.items)) }
 {
     words.append(&mut more)?;
     Ok(())
@@ -45,6 +47,7 @@ fn add_each(words: &mut Vec<String>, mut more: Vec<String>) -> Result<(), AllocE
 
 /// The words of a kernel's command line that give the sizes of a storage, and then these, if these say nothing of a
 /// region; else these alone.
+#[tactic(auto, using(kernel_line::proofs::Among::before_others))]
 pub fn with_storage_words(
     alloc: Global,
     line: &KernelLine,

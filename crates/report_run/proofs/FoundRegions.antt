@@ -27,10 +27,11 @@ module _ (asked : Asked) (known : Known) (path : List ℕ) (base : ℕ) (holds :
     taken = subst (λ (rs : List Region). AreTaken asked rs) slice_is taken;
   }
 
-  pub are_untaken : (why : Failure) → AreRefused asked base slice why
-      → AreUntaken asked known path base holds a b why
-  are_untaken why refused = record {
+  pub are_untaken : (before now : ℕ) (why : Failure) → now ≡ before → AreRefused asked base slice why
+      → AreUntaken asked known path base holds before now a b why
+  are_untaken before now why unread refused = record {
     regions = survey.regions.items;
     searched = searched;
+    no_read_fault = unread;
     refused = subst (λ (rs : List Region). AreRefused asked base rs why) slice_is refused;
   }

@@ -1,6 +1,6 @@
 -- An image that may be a text log: what a look at it tells, and how its report ends. For `held_log` and
 -- `unknown_report`.
-use Rattle.std.proofs.Common.{◌≡◌, ◌≤◌, ◌∙◌, ℕ, Bool, true, false, List, Option, Some, None, take, refl, sym, subst}
+use Rattle.std.proofs.Common.{◌≡◌, ◌∙◌, ℕ, Bool, true, false, List, Option, Some, None, take, refl, sym, subst}
 use Rattle.std.proofs.Common.{inl, inr, drop, length, ◌-◌, arith, ap, nat_lt}
 use Rattle.std.proofs.lemmas.List.{take_all, length-drop}
 use Rattle.std.specs.Prelude.{Result, Ok, Err, MatchResult, IfSome, IsTrue, ◌↔◌}
@@ -68,34 +68,38 @@ unheld All is holds read0 read1 read2 why seen taken same h = subst (λ (n : ℕ
 module _ (asked : Asked) (known : Known) (path : List ℕ) (holds given now : Option (List ℕ)) (read0 read2 put0 put1 : ℕ)
   where
     pub unseen : (a : Seen) (why : Failure) → IsUnlooked asked.logs read0 read2 why
-        → IsNoUnknownReport asked known path holds read0 read2 given given put0 put1 a a why
-    unseen a why h = inl (record { cause = h; unput = refl; silent = refl })
+        → IsNoUnknownReport asked known path holds read0 read2 given given put0 put0 a a why
+    unseen a why h = inl (record { cause = h; unput = refl; no_put_fault = refl; silent = refl })
 
     pub by_log : (log : HeldLog) (a : Seen) (r : Result ReportHeld Failure) → IsHeldLog asked.logs holds log
+        → read2 ≡ read0
         → MatchResult r (IsLogShown asked path log given now) (IsLogUnshown asked path log given now put0 put1)
         → MatchResult r (IsUnknownReport asked known path holds given now a a)
         (IsNoUnknownReport asked known path holds read0 read2 given now put0 put1 a a)
-    by_log log a (Ok report) is h =
+    by_log log a (Ok report) is unread h =
         inl (record { reported = record { log = log; held = is; reported = h }; silent = refl })
-    by_log log a (Err why) is h =
-        inr (inl (record { cause = record { log = log; held = is; cause = h }; silent = refl }))
+    by_log log a (Err why) is unread h =
+        inr (inl (record {
+          no_read_fault = unread;
+          cause = record { log = log; held = is; cause = h };
+          silent = refl;
+        }))
 
     pub by_others : (same : Option (List ℕ)) (read1 : ℕ) (a b : Seen) (r : Result ReportHeld Failure)
-        → IsNoLog asked.logs holds → same ≡ holds → read0 ≤ read1
+        → IsNoLog asked.logs holds → same ≡ holds → read1 ≡ read0
         → MatchResult r (IsUnloggedReport asked known path same given now a b)
         (IsNoUnloggedReport asked known path same read1 read2 given now put0 put1 a b)
         → MatchResult r (IsUnknownReport asked known path holds given now a b)
         (IsNoUnknownReport asked known path holds read0 read2 given now put0 put1 a b)
-    by_others same read1 a b (Ok report) unlogged e later h =
+    by_others same read1 a b (Ok report) unlogged e kept h =
         inr (record {
           no_log = unlogged;
           reported = subst (λ (o : Option (List ℕ)). IsUnloggedReport asked known path o given now a b report) e h;
         })
-    by_others same read1 a b (Err why) unlogged e later h =
+    by_others same read1 a b (Err why) unlogged e kept h =
         inr (inr (record {
           no_log = unlogged;
-          read_between = read1;
-          later = later;
-          cause = subst (λ (o : Option (List ℕ)).
-              IsNoUnloggedReport asked known path o read1 read2 given now put0 put1 a b why) e h;
+          cause = subst (λ (n : ℕ). IsNoUnloggedReport asked known path holds n read2 given now put0 put1 a b why) kept
+              (subst (λ (o : Option (List ℕ)).
+              IsNoUnloggedReport asked known path o read1 read2 given now put0 put1 a b why) e h);
         }))

@@ -1,5 +1,5 @@
 -- A region under the name that its place gives it. `report_named` and `report_given` cite them.
-use Rattle.std.proofs.Common.{◌≡◌, ◌∙◌, ℕ, List, Option, Some, subst, sym, inl, inr}
+use Rattle.std.proofs.Common.{◌≡◌, ℕ, List, Option, Some, subst, sym, inr}
 use Rattle.std.specs.Prelude.{Result, Ok, Err, MatchResult}
 use Rattle.found_regions.specs.declared.region.Region.{Region}
 use Rattle.report_tool.specs.declared.plan.Plan.{Plan}

@@ -30,9 +30,11 @@ held holds bytes slice text fault l read e is log = record {
 
 module _ (asked : Asked) (path : List ℕ) (holds given now : Option (List ℕ)) (read0 read1 put0 put1 : ℕ) (a b : Seen)
     (packed : PackedLog) (is : IsPackedLog holds packed) (told : IsPartTold path packed.fault a b) where
-  pub by_text : (r : Result ReportHeld Failure)
-      → MatchResult r (IsLogShown asked path packed.log given now) (IsLogUnshown asked path packed.log given now put0 put1)
+  pub by_text : (r : Result ReportHeld Failure) → read1 ≡ read0
+      → MatchResult r (IsLogShown asked path packed.log given now)
+      (IsLogUnshown asked path packed.log given now put0 put1)
       → MatchResult r (IsPackedReport asked path holds given now a b)
       (IsNoPackedReport asked path holds read0 read1 given now put0 put1 a b)
-  by_text (Ok report) h = record { packed = packed; is_log = is; told = told; reported = h }
-  by_text (Err why) h = inr (record { packed = packed; is_log = is; told = told; cause = h })
+  by_text (Ok report) unread h = record { packed = packed; is_log = is; told = told; reported = h }
+  by_text (Err why) unread h =
+      inr (record { packed = packed; is_log = is; no_read_fault = unread; told = told; cause = h })

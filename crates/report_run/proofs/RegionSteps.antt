@@ -6,7 +6,7 @@ use Rattle.found_regions.specs.declared.region.Region.{Region}
 use Rattle.report_run.specs.declared.plans.Asked.{Asked}
 use Rattle.report_run.specs.declared.failures.Failure.{Failure}
 use Rattle.report_run.specs.States.{State}
-use Rattle.report_run.specs.Memories.{IsNamedDone, IsNamedUndone, AreRegionsDone, IsRegionFailed, AreRegionsUndone}
+use Rattle.report_run.specs.Memories.{IsNamedDone, IsNamedUndone, AreRegionsDone, AreRegionsUndone}
 
 module _ (asked : Asked) (path : List ℕ) (base : ℕ) (holds : Option (List ℕ)) (regions : List Region) (start : State)
     (first : ℕ) where
@@ -43,20 +43,16 @@ module _ (asked : Asked) (path : List ℕ) (base : ℕ) (holds : Option (List �
       }
 
   pub one_failed : (i : ℕ) (region : Region) (held : Option (List ℕ)) (s after : State) (before now : ℕ)
-      (why : Failure) → i < length regions → region ≡ get_or regions i region → held ≡ holds → first ≤ before
+      (why : Failure) → i < length regions → region ≡ get_or regions i region → held ≡ holds → before ≡ first
       → IsNamedUndone asked path base region held before now s after why → Continues i s
       → AreRegionsUndone asked path base holds first now regions start after why
   unfolding AreRegionsUndone
-  one_failed i region held s after before now why inside is same later one so_far =
+  one_failed i region held s after before now why inside is same unread one so_far =
       so_far.undone after now why
       (subst (λ (rs : List Region). AreRegionsUndone asked path base holds first now rs s after why)
       (from i region inside is)
-      (inl (record {
-        read_before = before;
-        later = later;
-        undone = subst (λ (h : Option (List ℕ)). IsNamedUndone asked path base region h before now s after why) same
-            one;
-      })))
+      (inl (subst (λ (n : ℕ). IsNamedUndone asked path base region holds n now s after why) unread
+      (subst (λ (h : Option (List ℕ)). IsNamedUndone asked path base region h before now s after why) same one))))
 
   pub all_done : (i : ℕ) (s : State) → length regions ≤ i → Continues i s
       → AreRegionsDone asked path base holds regions start s

@@ -1,6 +1,6 @@
 -- A report and the lines on its layout end the report of an image, and so does one by a plan that is given.
 -- `sought_report` and `report_image` cite them.
-use Rattle.std.proofs.Common.{◌≡◌, ◌≤◌, ℕ, List, Option, subst, sym, refl, inl, inr, string_bytes}
+use Rattle.std.proofs.Common.{◌≡◌, ℕ, List, Option, subst, sym, refl, inl, inr, string_bytes}
 use Rattle.std.specs.Prelude.{Result, Ok, Err, MatchResult}
 use Rattle.layout_spec.specs.declared.Known.{Known}
 use Rattle.region_report.specs.Reports.{ReportHeld}
@@ -22,17 +22,16 @@ module _ (asked : Asked) (known : Known) (path : List ℕ) (holds same : Option 
     (looking : IsLooking known path holds first looked) (e : same ≡ holds) where
   -- the report by the plan stopped
   pub unreported : (given now : Option (List ℕ)) (put0 put1 read0 read1 read2 : ℕ) (why : Failure)
-      → read0 ≤ read1 → IsStopped asked.format path told.plan same read1 read2 given now put0 put1 why
+      → read1 ≡ read0 → IsStopped asked.format path told.plan same read1 read2 given now put0 put1 why
       → IsNoSoughtReport asked known path holds read0 read2 given now put0 put1 first looked why
-  unreported given now put0 put1 read0 read1 read2 why later h = inr (inr (record {
+  unreported given now put0 put1 read0 read1 read2 why unread h = inr (inr (record {
     told = told;
     planned = planned;
     looked = looked;
     looking = looking;
-    read_between = read1;
-    later = later;
-    cause = subst (λ (o : Option (List ℕ)). IsStopped asked.format path told.plan o read1 read2 given now put0 put1 why)
-        e h;
+    cause = subst (λ (n : ℕ). IsStopped asked.format path told.plan holds n read2 given now put0 put1 why) unread
+        (subst (λ (o : Option (List ℕ)). IsStopped asked.format path told.plan o read1 read2 given now put0 put1 why) e
+        h);
     silent = refl;
   }))
 
@@ -56,9 +55,11 @@ module _ (asked : Asked) (known : Known) (path : List ℕ) (holds same : Option 
     }
 
     -- or they failed
-    pub unended : (read0 read1 : ℕ) (why : Failure) → IsNotTold asked.format lines between now put1 put2 looked b why
+    pub unended : (read0 read1 : ℕ) (why : Failure) → read1 ≡ read0
+        → IsNotTold asked.format lines between now put1 put2 looked b why
         → IsNoSoughtReport asked known path holds read0 read1 given now put0 put2 first b why
-    unended read0 read1 why fails = inr (inl (record {
+    unended read0 read1 why unread fails = inr (inl (record {
+      no_read_fault = unread;
       told = told;
       planned = planned;
       looked = looked;

@@ -53,7 +53,8 @@ pub record IsPartStopped (asked : Asked) (format : Format) (name part : List ℕ
 abbrev pub IsPartUnshown : Asked → Format → List ℕ → List ℕ → Option (List ℕ) → Option (List ℕ) → ℕ → ℕ → Failure
     → Type 0
 IsPartUnshown asked format name part given now put_before put_now why =
-    ((why ≡ Memory) × (now ≡ given)) ⊎ IsPartStopped asked format name part given now put_before put_now why
+    ((why ≡ Memory) × (now ≡ given) × (put_now ≡ put_before))
+    ⊎ IsPartStopped asked format name part given now put_before put_now why
 
 -- ---- the boots before the last, named by their places
 

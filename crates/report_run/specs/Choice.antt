@@ -1,6 +1,6 @@
 -- Which regions of a whole memory are reported, and why none is
-use Rattle.std.specs.Prelude.{◌≡◌, ◌⊎◌, ⊤, ℕ, ◌<◌, nat_lt, Bool, true, false, ◌||◌, ◌&&◌, List, [], ◌∷◌, length, Option, Some, None}
-use Rattle.std.specs.Prelude.{IfSome, string_bytes}
+use Rattle.std.specs.Prelude.{◌≡◌, ◌⊎◌, ⊤, ℕ, ◌<◌, nat_lt, Bool, true, false, ◌||◌, ◌&&◌, List, [], ◌∷◌, length}
+use Rattle.std.specs.Prelude.{Option, Some, None, IfSome, string_bytes}
 use Rattle.outside.specs.Outside.{Rose}
 use Rattle.memory_spec.specs.Pages.{marked}
 use Rattle.layout_spec.specs.declared.Known.{Known}
@@ -18,7 +18,7 @@ use Rattle.report_run.specs.Failures.{IsUnread}
 use Rattle.report_run.specs.Messages.{Seen, IsTold}
 use Rattle.report_run.specs.Places.{places_text, finding_lines, regions_in}
 
--- ---- the region at a place that is named
+-- ---- the region at a place that is named; a read failed only if that is told
 
 pub record IsThere (known : Known) (place : ℕ) (holds : Option (List ℕ)) (regions : List Region) : Type 0 where
   pub region : Region
@@ -26,9 +26,10 @@ pub record IsThere (known : Known) (place : ℕ) (holds : Option (List ℕ)) (re
   pub at : IfSome holds (λ memory. IsRegionAt known memory place (Some region))
 
 abbrev pub IsNotThere : Known → ℕ → Option (List ℕ) → ℕ → ℕ → Failure → Type 0
-IsNotThere known place holds before now Memory = ⊤
+IsNotThere known place holds before now Memory = now ≡ before
 IsNotThere known place holds before now Unread = Rose before now
-IsNotThere known place holds before now NotThere = IfSome holds (λ memory. IsRegionAt known memory place None)
+IsNotThere known place holds before now NotThere =
+    (now ≡ before) × IfSome holds (λ memory. IsRegionAt known memory place None)
 IsNotThere known place holds before now other = ⊥
 
 -- ---- all regions that are found
@@ -81,14 +82,15 @@ pub record IsUnsearched (before now : ℕ) (a b : Seen) (why : Failure) : Type 0
 
 -- or the regions that were found are not reported
 pub record AreUntaken (asked : Asked) (known : Known) (path : List ℕ) (base : ℕ) (holds : Option (List ℕ))
-    (a b : Seen) (why : Failure) : Type 0 where
+    (before now : ℕ) (a b : Seen) (why : Failure) : Type 0 where
   pub regions : List Region
   pub searched : IsSearched known path base holds regions a b
+  pub no_read_fault : now ≡ before
   pub refused : AreRefused asked base regions why
 
 abbrev pub AreNotFound : Asked → Known → List ℕ → ℕ → Option (List ℕ) → ℕ → ℕ → Seen → Seen → Failure → Type 0
 AreNotFound asked known path base holds before now a b why =
-    IsUnsearched before now a b why ⊎ AreUntaken asked known path base holds a b why
+    IsUnsearched before now a b why ⊎ AreUntaken asked known path base holds before now a b why
 
 -- ---- the region at the place, if one is named, or all
 

@@ -1,5 +1,5 @@
 -- Why a report by a plan was not made, or an image or a whole memory not read
-use Rattle.std.specs.Prelude.{⊤, ℕ}
+use Rattle.std.specs.Prelude.{◌≡◌, ℕ}
 use Rattle.outside.specs.Outside.{Rose}
 use Rattle.command_spec.specs.declared.Stop.{Stop}
 use Rattle.command_spec.specs.declared.Stop.TheVariants.{Short as TooShort, ImageFault, SinkFault}
@@ -20,9 +20,9 @@ abbrev pub unread_failure : Fault → Failure
 unread_failure NoMemory = Memory
 unread_failure ReadFault = Unread
 
--- memory ran out, or it could not be read
+-- memory ran out and no read failed, or one failed
 abbrev pub IsUnread : ℕ → ℕ → Failure → Type 0
-IsUnread before now Memory = ⊤
+IsUnread before now Memory = now ≡ before
 IsUnread before now Unread = Rose before now
 IsUnread before now other = ⊥
 

@@ -1,8 +1,9 @@
 -- The report of one image, and why there is none
-use Rattle.std.specs.Prelude.{◌≡◌, ◌⊎◌, ◌≤◌, ℕ, List, Option, Some, string_bytes}
+use Rattle.std.specs.Prelude.{◌≡◌, ◌≢◌, ◌⊎◌, ℕ, List, Option, Some, string_bytes}
 use Rattle.std.specs.Io.KnownBytes.{Appends}
 use Rattle.outside.specs.Outside.{Rose, AppendsFront}
 use Rattle.command_spec.specs.declared.Stop.{Stop}
+use Rattle.command_spec.specs.declared.Stop.TheVariants.{ImageFault, SinkFault}
 use Rattle.layout_spec.specs.declared.Known.{Known}
 use Rattle.region_report.specs.Reports.{ReportHeld}
 use Rattle.report_tool.specs.declared.plan.Plan.{Plan}
@@ -50,12 +51,14 @@ abbrev pub IsNotTold : Format → List ℕ → Option (List ℕ) → Option (Lis
 IsNotTold Text lines given now before after a b why = IsCutOff lines given now before after a b why
 IsNotTold other lines given now before after a b why = ⊥
 
--- ---- the report by a plan
+-- ---- the report by a plan: a read failed, or the output, only if that stopped it
 
 pub record IsStopped (format : Format) (path : List ℕ) (plan : Plan) (holds : Option (List ℕ))
     (read_before read_now : ℕ) (given now : Option (List ℕ)) (put_before put_now : ℕ) (why : Failure) : Type 0 where
   pub stop : Stop
   pub cause : IsNotReported format path plan stop holds read_before read_now given now put_before put_now
+  pub no_read_fault : stop ≢ ImageFault → read_now ≡ read_before
+  pub no_put_fault : stop ≢ SinkFault → put_now ≡ put_before
   pub why_is : why ≡ stop_failure stop
 
 -- the same, of bytes in memory, whose reading does not fail
@@ -77,14 +80,17 @@ pub record IsSoughtReport (asked : Asked) (known : Known) (path : List ℕ) (hol
 
 -- there is no plan: nothing was given out
 pub record IsUnplanned (known : Known) (path : List ℕ) (holds : Option (List ℕ)) (read_before read_now : ℕ)
-    (given now : Option (List ℕ)) (a b : Seen) (why : Failure) : Type 0 where
+    (given now : Option (List ℕ)) (put_before put_now : ℕ) (a b : Seen) (why : Failure) : Type 0 where
   pub cause : IsNotSought known path holds read_before read_now why
   pub unput : now ≡ given
+  pub no_put_fault : put_now ≡ put_before
   pub looking : MayLook known path holds a b
 
 -- or the lines on the layout failed, behind the report
-pub record IsUnended (asked : Asked) (known : Known) (path : List ℕ) (holds given now : Option (List ℕ))
-    (put_before put_now : ℕ) (a b : Seen) (why : Failure) : Type 0 where
+pub record IsUnended (asked : Asked) (known : Known) (path : List ℕ) (holds : Option (List ℕ))
+    (read_before read_now : ℕ) (given now : Option (List ℕ)) (put_before put_now : ℕ) (a b : Seen) (why : Failure)
+    : Type 0 where
+  pub no_read_fault : read_now ≡ read_before
   pub told : HintedPlan
   pub planned : IsAskedPlan asked known path holds told
   pub looked : Seen
@@ -102,14 +108,12 @@ pub record IsUnreported (asked : Asked) (known : Known) (path : List ℕ) (holds
   pub planned : IsAskedPlan asked known path holds told
   pub looked : Seen
   pub looking : IsLooking known path holds a looked
-  pub read_between : ℕ
-  pub later : read_before ≤ read_between
-  pub cause : IsStopped asked.format path told.plan holds read_between read_now given now put_before put_now why
+  pub cause : IsStopped asked.format path told.plan holds read_before read_now given now put_before put_now why
   pub silent : b ≡ looked
 
 abbrev pub IsNoSoughtReport : Asked → Known → List ℕ → Option (List ℕ) → ℕ → ℕ → Option (List ℕ) → Option (List ℕ)
     → ℕ → ℕ → Seen → Seen → Failure → Type 0
 IsNoSoughtReport asked known path holds read_before read_now given now put_before put_now a b why =
-    IsUnplanned known path holds read_before read_now given now a b why
-    ⊎ (IsUnended asked known path holds given now put_before put_now a b why
+    IsUnplanned known path holds read_before read_now given now put_before put_now a b why
+    ⊎ (IsUnended asked known path holds read_before read_now given now put_before put_now a b why
     ⊎ IsUnreported asked known path holds read_before read_now given now put_before put_now a b why)

@@ -64,7 +64,7 @@ abbrev pub IsLooked : Logs → Option (List ℕ) → Option HeldLog → Type 0
 IsLooked logs holds None = IsNoLog logs holds
 IsLooked logs holds (Some l) = IsHeldLog logs holds l
 
--- why it is not known; where none is looked for, it is known without a look
+-- why it is not known whether an image is a log. With `Never` nothing is read, so nothing fails
 abbrev pub IsUnlooked : Logs → ℕ → ℕ → Failure → Type 0
 IsUnlooked Never before now why = ⊥
 IsUnlooked other before now why = IsUnread before now why

@@ -1,5 +1,5 @@
 -- A whole memory: the regions in it, one after another, and why not all were reported
-use Rattle.std.specs.Prelude.{◌≡◌, ◌⊎◌, ◌≤◌, ℕ, List, [], ◌∷◌, Option, Some, None}
+use Rattle.std.specs.Prelude.{◌≡◌, ◌⊎◌, ℕ, List, [], ◌∷◌, Option, Some, None}
 use Rattle.layout_spec.specs.declared.Known.{Known}
 use Rattle.found_regions.specs.declared.region.Region.{Region}
 use Rattle.report_tool.specs.declared.plan.Plan.{Plan}
@@ -29,31 +29,27 @@ AreRegionsDone asked path base holds (region ∷ regions) a b =
 -- memory ran out before, or it was not done
 abbrev pub IsNamedUndone : Asked → List ℕ → ℕ → Region → Option (List ℕ) → ℕ → ℕ → State → State → Failure → Type 0
 IsNamedUndone asked path base region holds read_before read_now a b why =
-    IsRegionUntold a b why
+    IsRegionUntold read_before read_now a b why
     ⊎ IsRegionUndone asked (region_name path base region.place) region holds read_before read_now a b why
 
--- by the memory's count of faults before the first region and now
-pub record IsRegionFailed (asked : Asked) (path : List ℕ) (base : ℕ) (region : Region) (holds : Option (List ℕ))
-    (read_first read_now : ℕ) (a b : State) (why : Failure) : Type 0 where
-  pub read_before : ℕ
-  pub later : read_first ≤ read_before
-  pub undone : IsNamedUndone asked path base region holds read_before read_now a b why
-
--- the first that fails ends it
+-- the first that fails ends it, and no read failed before
 unfoldable pub AreRegionsUndone : Asked → List ℕ → ℕ → Option (List ℕ) → ℕ → ℕ → List Region → State → State → Failure
     → Type 0
-AreRegionsUndone asked path base holds read_first read_now [] a b why = ⊥
-AreRegionsUndone asked path base holds read_first read_now (region ∷ regions) a b why =
-    IsRegionFailed asked path base region holds read_first read_now a b why
+AreRegionsUndone asked path base holds read_before read_now [] a b why = ⊥
+AreRegionsUndone asked path base holds read_before read_now (region ∷ regions) a b why =
+    IsNamedUndone asked path base region holds read_before read_now a b why
     ⊎ ((m : State) × IsNamedDone asked path base region holds a m
-    × AreRegionsUndone asked path base holds read_first read_now regions m b why)
+    × AreRegionsUndone asked path base holds read_before read_now regions m b why)
 
 -- ---- a layout that is given: the region at the place that is named; nothing goes to standard error
 
 -- memory ran out before
-pub record IsUnbegun (cause why : Failure) (given now : Option (List ℕ)) (made made_now : Folder) : Type 0 where
+pub record IsUnbegun (cause why : Failure) (read_before read_now : ℕ) (given now : Option (List ℕ))
+    (put_before put_now : ℕ) (made made_now : Folder) : Type 0 where
   pub why_is : why ≡ cause
+  pub no_read_fault : read_now ≡ read_before
   pub unput : now ≡ given
+  pub no_put_fault : put_now ≡ put_before
   pub unmade : made_now ≡ made
 
 abbrev pub IsByGiven : Option ℕ → Asked → Plan → List ℕ → ℕ → Option (List ℕ) → Option (List ℕ) → Option (List ℕ)
@@ -65,10 +61,10 @@ IsByGiven (Some place) asked plan path base holds given now made made_now =
 abbrev pub IsNotByGiven : Option ℕ → Asked → Plan → List ℕ → ℕ → Option (List ℕ) → ℕ → ℕ → Option (List ℕ)
     → Option (List ℕ) → ℕ → ℕ → Folder → Folder → Failure → Type 0
 IsNotByGiven None asked plan path base holds read_before read_now given now put_before put_now made made_now why =
-    IsUnbegun NoPlace why given now made made_now
+    IsUnbegun NoPlace why read_before read_now given now put_before put_now made made_now
 IsNotByGiven (Some place) asked plan path base holds read_before read_now given now put_before put_now made made_now
     why =
-    IsUnbegun Memory why given now made made_now
+    IsUnbegun Memory why read_before read_now given now put_before put_now made made_now
     ⊎ IsPlaceUndone asked plan (region_name path base place) place holds read_before read_now given now put_before
     put_now made made_now why
 
@@ -86,6 +82,7 @@ pub record IsUnchosen (asked : Asked) (whole : WholeMemory) (known : Known) (pat
     (holds : Option (List ℕ)) (read_before read_now : ℕ) (a b : State) (why : Failure) : Type 0 where
   pub cause : AreUnchosen whole.place asked known path whole.base holds read_before read_now a.errors b.errors why
   pub unput : b.out ≡ a.out
+  pub no_put_fault : b.out_faults ≡ a.out_faults
   pub unmade : b.files ≡ a.files
 
 pub record IsChosenUndone (asked : Asked) (whole : WholeMemory) (known : Known) (path : List ℕ)
@@ -93,9 +90,7 @@ pub record IsChosenUndone (asked : Asked) (whole : WholeMemory) (known : Known) 
   pub regions : List Region
   pub between : Seen
   pub chosen : AreChosen whole.place asked known path whole.base holds a.errors between regions
-  pub read_between : ℕ
-  pub later : read_before ≤ read_between
-  pub undone : AreRegionsUndone asked path whole.base holds read_between read_now regions
+  pub undone : AreRegionsUndone asked path whole.base holds read_before read_now regions
       (record a { errors = between }) b why
 
 abbrev pub IsNotBySearch : Asked → WholeMemory → Known → List ℕ → Option (List ℕ) → ℕ → ℕ → State → State → Failure

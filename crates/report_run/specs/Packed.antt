@@ -1,5 +1,5 @@
 -- A record that pstore left packed: the report of its text
-use Rattle.std.specs.Prelude.{◌≡◌, ◌⊎◌, ⊤, ℕ, ◌<◌, Bool, true, false, ◌&&◌, List, length, take, Option, Some, IfSome}
+use Rattle.std.specs.Prelude.{◌≡◌, ◌⊎◌, ℕ, ◌<◌, Bool, true, false, ◌&&◌, List, length, take, Option, Some, IfSome}
 use Rattle.outside.specs.Outside.{Rose}
 use Rattle.packed_record.specs.Packed.{is_packed_name, stream_of, IsText}
 use Rattle.region_report.specs.Reports.{ReportHeld}
@@ -40,11 +40,11 @@ pub record HasNoText (holds : Option (List ℕ)) : Type 0 where
   pub has_text : HasText holds fault text
   pub none : length text ≡ 0
 
--- memory ran out, it could not be read, or nothing of it inflates
+-- memory ran out, it could not be read, or nothing of it inflates; a read failed only if that is told
 abbrev pub IsUninflated : Option (List ℕ) → ℕ → ℕ → Failure → Type 0
-IsUninflated holds before now Memory = ⊤
+IsUninflated holds before now Memory = now ≡ before
 IsUninflated holds before now Unread = Rose before now
-IsUninflated holds before now NoText = HasNoText holds
+IsUninflated holds before now NoText = (now ≡ before) × HasNoText holds
 IsUninflated holds before now other = ⊥
 
 -- the report of that log, behind the line on what does not inflate
@@ -57,21 +57,23 @@ pub record IsPackedReport (asked : Asked) (path : List ℕ) (holds given now : O
 
 -- there is no text: nothing was given out
 pub record IsPackedUnread (holds : Option (List ℕ)) (read_before read_now : ℕ) (given now : Option (List ℕ))
-    (a b : Seen) (why : Failure) : Type 0 where
+    (put_before put_now : ℕ) (a b : Seen) (why : Failure) : Type 0 where
   pub cause : IsUninflated holds read_before read_now why
   pub unput : now ≡ given
+  pub no_put_fault : put_now ≡ put_before
   pub silent : b ≡ a
 
 -- or it was not reported
-pub record IsPackedUnreported (asked : Asked) (path : List ℕ) (holds given now : Option (List ℕ))
-    (put_before put_now : ℕ) (a b : Seen) (why : Failure) : Type 0 where
+pub record IsPackedUnreported (asked : Asked) (path : List ℕ) (holds : Option (List ℕ)) (read_before read_now : ℕ)
+    (given now : Option (List ℕ)) (put_before put_now : ℕ) (a b : Seen) (why : Failure) : Type 0 where
   pub packed : PackedLog
   pub is_log : IsPackedLog holds packed
+  pub no_read_fault : read_now ≡ read_before
   pub told : IsPartTold path packed.fault a b
   pub cause : IsLogUnshown asked path packed.log given now put_before put_now why
 
 abbrev pub IsNoPackedReport : Asked → List ℕ → Option (List ℕ) → ℕ → ℕ → Option (List ℕ) → Option (List ℕ) → ℕ → ℕ
     → Seen → Seen → Failure → Type 0
 IsNoPackedReport asked path holds read_before read_now given now put_before put_now a b why =
-    IsPackedUnread holds read_before read_now given now a b why
-    ⊎ IsPackedUnreported asked path holds given now put_before put_now a b why
+    IsPackedUnread holds read_before read_now given now put_before put_now a b why
+    ⊎ IsPackedUnreported asked path holds read_before read_now given now put_before put_now a b why

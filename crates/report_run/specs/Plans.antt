@@ -1,5 +1,5 @@
 -- The plan by which an image is read whose layout is looked for
-use Rattle.std.specs.Prelude.{◌≡◌, ⊤, ℕ, Bool, true, false, List, take, length, Option, Some, None, IfSome}
+use Rattle.std.specs.Prelude.{◌≡◌, ℕ, Bool, true, false, List, take, length, Option, Some, None, IfSome}
 use Rattle.std.specs.Global.{Vec}
 use Rattle.outside.specs.Outside.{Rose}
 use Rattle.zone_spec.specs.Numbers.{most_memory}
@@ -67,11 +67,15 @@ pub record IsUntakenBy (known : Known) (path : List ℕ) (holds : Option (List �
   pub shown : IfSome holds (λ image. IsShown known image found size)
   pub untaken : IsNotTaken path size found why
 
--- why there is no plan, by what the image holds and its count of faults before and now
+-- why there is no plan, by what the image holds and its count of faults before and now; a read failed only if that is
+-- told
 abbrev pub IsNotSought : Known → List ℕ → Option (List ℕ) → ℕ → ℕ → Failure → Type 0
-IsNotSought known path holds before now Memory = ⊤
+IsNotSought known path holds before now Memory = now ≡ before
 IsNotSought known path holds before now Unread = Rose before now
-IsNotSought known path holds before now NotFound = IfSome holds (λ image. IsEmpty known (take most_memory image))
-IsNotSought known path holds before now (Unexplained best) = IsUntakenBy known path holds (NotTaken best)
-IsNotSought known path holds before now (Unfinished best) = IsUntakenBy known path holds (NotEnded best)
+IsNotSought known path holds before now NotFound =
+    (now ≡ before) × IfSome holds (λ image. IsEmpty known (take most_memory image))
+IsNotSought known path holds before now (Unexplained best) =
+    (now ≡ before) × IsUntakenBy known path holds (NotTaken best)
+IsNotSought known path holds before now (Unfinished best) =
+    (now ≡ before) × IsUntakenBy known path holds (NotEnded best)
 IsNotSought known path holds before now other = ⊥

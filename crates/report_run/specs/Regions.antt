@@ -1,5 +1,5 @@
 -- The report of a region in a whole memory, and why there is none
-use Rattle.std.specs.Prelude.{◌≡◌, ◌⊎◌, ⊤, ℕ, ◌+◌, ◌<◌, ◌≤◌, List, ◌++◌, length, take, drop, Option, Some}
+use Rattle.std.specs.Prelude.{◌≡◌, ◌⊎◌, ℕ, ◌+◌, ◌<◌, ◌≤◌, List, ◌++◌, length, take, drop, Option, Some}
 use Rattle.std.specs.Prelude.{IfSome, string_bytes}
 use Rattle.outside.specs.Outside.{Rose}
 use Rattle.layout_spec.specs.Laid.{params_of}
@@ -31,12 +31,12 @@ pub record IsBeyond (place size has : ℕ) (holds : Option (List ℕ)) : Type 0 
   pub beyond : has < place + size
   pub sized : IfSome holds (λ memory. has ≡ length memory)
 
--- memory ran out, it could not be read, or it ends before the region does
+-- memory ran out, it could not be read, or it ends before the region does; a read failed only if that is told
 abbrev pub IsUnheld : ℕ → ℕ → Option (List ℕ) → ℕ → ℕ → Failure → Type 0
-IsUnheld place size holds before now Memory = ⊤
+IsUnheld place size holds before now Memory = now ≡ before
 IsUnheld place size holds before now Unread = Rose before now
 IsUnheld place size holds before now (Beyond has needed from) =
-    (needed ≡ size) × (from ≡ place) × IsBeyond place size has holds
+    (now ≡ before) × (needed ≡ size) × (from ≡ place) × IsBeyond place size has holds
 IsUnheld place size holds before now other = ⊥
 
 -- ---- the report of those bytes, and the records saved
@@ -51,17 +51,19 @@ pub record IsPlaceDone (asked : Asked) (plan : Plan) (name : List ℕ) (place : 
 
 -- there were no such bytes: nothing was given out
 pub record IsPlaceUnheld (plan : Plan) (place : ℕ) (holds : Option (List ℕ)) (read_before read_now : ℕ)
-    (given now : Option (List ℕ)) (made made_now : Folder) (why : Failure) : Type 0 where
+    (given now : Option (List ℕ)) (put_before put_now : ℕ) (made made_now : Folder) (why : Failure) : Type 0 where
   pub cause : IsUnheld place plan.mem holds read_before read_now why
   pub unput : now ≡ given
+  pub no_put_fault : put_now ≡ put_before
   pub unmade : made_now ≡ made
 
 -- or the report stopped: no file was made
 pub record IsPlaceStopped (asked : Asked) (plan : Plan) (name : List ℕ) (place : ℕ) (holds : Option (List ℕ))
-    (given now : Option (List ℕ)) (put_before put_now : ℕ) (made made_now : Folder) (why : Failure)
-    : Type 0 where
+    (read_before read_now : ℕ) (given now : Option (List ℕ)) (put_before put_now : ℕ) (made made_now : Folder)
+    (why : Failure) : Type 0 where
   pub bytes : List ℕ
   pub held : IsHeld place plan.mem holds bytes
+  pub no_read_fault : read_now ≡ read_before
   pub cause : IsStoppedAt asked.format name plan bytes given now put_before put_now why
   pub unmade : made_now ≡ made
 
@@ -80,8 +82,8 @@ pub record IsPlaceUnkept (asked : Asked) (plan : Plan) (name : List ℕ) (place 
 abbrev pub IsPlaceUndone : Asked → Plan → List ℕ → ℕ → Option (List ℕ) → ℕ → ℕ → Option (List ℕ) → Option (List ℕ)
     → ℕ → ℕ → Folder → Folder → Failure → Type 0
 IsPlaceUndone asked plan name place holds read_before read_now given now put_before put_now made made_now why =
-    IsPlaceUnheld plan place holds read_before read_now given now made made_now why
-    ⊎ (IsPlaceStopped asked plan name place holds given now put_before put_now made made_now why
+    IsPlaceUnheld plan place holds read_before read_now given now put_before put_now made made_now why
+    ⊎ (IsPlaceStopped asked plan name place holds read_before read_now given now put_before put_now made made_now why
     ⊎ IsPlaceUnkept asked plan name place holds read_before read_now given now put_before put_now made made_now why)
 
 -- ---- a region that was found: its report, and then the lines on it
@@ -112,15 +114,17 @@ pub record IsRegionDone (asked : Asked) (name : List ℕ) (region : Region) (hol
   pub no_fault : b.out_faults ≡ a.out_faults
 
 -- memory ran out before
-pub record IsRegionUntold (a b : State) (why : Failure) : Type 0 where
+pub record IsRegionUntold (read_before read_now : ℕ) (a b : State) (why : Failure) : Type 0 where
   pub why_is : why ≡ Memory
+  pub no_read_fault : read_now ≡ read_before
   pub same : b ≡ a
 
 -- or the lines failed, behind what was done
-pub record IsRegionCut (asked : Asked) (name : List ℕ) (region : Region) (holds : Option (List ℕ)) (a b : State)
-    (why : Failure) : Type 0 where
+pub record IsRegionCut (asked : Asked) (name : List ℕ) (region : Region) (holds : Option (List ℕ))
+    (read_before read_now : ℕ) (a b : State) (why : Failure) : Type 0 where
   pub told : RegionTold
   pub is_told : IsRegionTold asked name region told
+  pub no_read_fault : read_now ≡ read_before
   pub between : Option (List ℕ)
   pub done : IsPlaceDone asked told.plan name region.place holds a.out between a.files b.files
   pub cause : IsNotTold asked.format (string_bytes told.lines) between b.out a.out_faults b.out_faults a.errors b.errors
@@ -137,6 +141,6 @@ pub record IsRegionStopped (asked : Asked) (name : List ℕ) (region : Region) (
 
 abbrev pub IsRegionUndone : Asked → List ℕ → Region → Option (List ℕ) → ℕ → ℕ → State → State → Failure → Type 0
 IsRegionUndone asked name region holds read_before read_now a b why =
-    IsRegionUntold a b why
-    ⊎ (IsRegionCut asked name region holds a b why
+    IsRegionUntold read_before read_now a b why
+    ⊎ (IsRegionCut asked name region holds read_before read_now a b why
     ⊎ IsRegionStopped asked name region holds read_before read_now a b why)

@@ -1,5 +1,5 @@
 -- The report of any image, and why there is none
-use Rattle.std.specs.Prelude.{◌≡◌, ◌⊎◌, ◌≤◌, ℕ, Bool, true, false, List, Option}
+use Rattle.std.specs.Prelude.{◌≡◌, ◌⊎◌, ℕ, Bool, true, false, List, Option}
 use Rattle.layout_spec.specs.declared.Known.{Known}
 use Rattle.region_report.specs.Reports.{ReportHeld}
 use Rattle.report_tool.specs.declared.plan.Plan.{Plan}
@@ -35,14 +35,16 @@ IsUnknownReport asked known path holds given now a b report =
     IsAsLog asked path holds given now a b report ⊎ IsAsUnlogged asked known path holds given now a b report
 
 -- it could not be read: nothing was given out
-pub record IsUnseenLog (logs : Logs) (read_before read_now : ℕ) (given now : Option (List ℕ)) (a b : Seen)
-    (why : Failure) : Type 0 where
+pub record IsUnseenLog (logs : Logs) (read_before read_now : ℕ) (given now : Option (List ℕ)) (put_before put_now : ℕ)
+    (a b : Seen) (why : Failure) : Type 0 where
   pub cause : IsUnlooked logs read_before read_now why
   pub unput : now ≡ given
+  pub no_put_fault : put_now ≡ put_before
   pub silent : b ≡ a
 
-pub record IsNotAsLog (asked : Asked) (path : List ℕ) (holds given now : Option (List ℕ)) (put_before put_now : ℕ)
-    (a b : Seen) (why : Failure) : Type 0 where
+pub record IsNotAsLog (asked : Asked) (path : List ℕ) (holds : Option (List ℕ)) (read_before read_now : ℕ)
+    (given now : Option (List ℕ)) (put_before put_now : ℕ) (a b : Seen) (why : Failure) : Type 0 where
+  pub no_read_fault : read_now ≡ read_before
   pub cause : IsHeldUnreported asked path holds given now put_before put_now why
   pub silent : b ≡ a
 
@@ -50,15 +52,13 @@ pub record IsNotUnlogged (asked : Asked) (known : Known) (path : List ℕ) (hold
     (read_before read_now : ℕ) (given now : Option (List ℕ)) (put_before put_now : ℕ) (a b : Seen) (why : Failure)
     : Type 0 where
   pub no_log : IsNoLog asked.logs holds
-  pub read_between : ℕ
-  pub later : read_before ≤ read_between
-  pub cause : IsNoUnloggedReport asked known path holds read_between read_now given now put_before put_now a b why
+  pub cause : IsNoUnloggedReport asked known path holds read_before read_now given now put_before put_now a b why
 
 abbrev pub IsNoUnknownReport : Asked → Known → List ℕ → Option (List ℕ) → ℕ → ℕ → Option (List ℕ) → Option (List ℕ)
     → ℕ → ℕ → Seen → Seen → Failure → Type 0
 IsNoUnknownReport asked known path holds read_before read_now given now put_before put_now a b why =
-    IsUnseenLog asked.logs read_before read_now given now a b why
-    ⊎ (IsNotAsLog asked path holds given now put_before put_now a b why
+    IsUnseenLog asked.logs read_before read_now given now put_before put_now a b why
+    ⊎ (IsNotAsLog asked path holds read_before read_now given now put_before put_now a b why
     ⊎ IsNotUnlogged asked known path holds read_before read_now given now put_before put_now a b why)
 
 -- ---- an image whose layout is not given: a packed record, by its name, or what its bytes show
@@ -101,5 +101,5 @@ abbrev pub IsNoReport : Layouts → Asked → List ℕ → Option (List ℕ) →
 IsNoReport (Given plan) asked path holds read_before read_now given now put_before put_now a b why =
     IsNoGivenReport asked plan path holds read_before read_now given now put_before put_now a b why
 IsNoReport (Sought known) asked path holds read_before read_now given now put_before put_now a b why =
-    IsNoUnlaidReport (is_packed asked.logs path) asked known path holds read_before read_now given now put_before put_now
-    a b why
+    IsNoUnlaidReport (is_packed asked.logs path) asked known path holds read_before read_now given now put_before
+    put_now a b why

@@ -1,6 +1,6 @@
 -- The run over files, one after another
 use Rattle.std.specs.Prelude.{◌≡◌, ◌⊎◌, ◌≤◌, ℕ, nat_lt, Bool, true, false, not, ◌&&◌, ◌||◌, if◌then◌else◌, List}
-use Rattle.std.specs.Prelude.{length, Option, Some, None, ◌+◌, [], ◌∷◌, string_bytes}
+use Rattle.std.specs.Prelude.{Option, Some, None, ◌+◌, [], ◌∷◌, string_bytes}
 use Rattle.std.specs.declared.string.String.{String}
 use Rattle.std.specs.declared.alloc.Global.{Global}
 use Rattle.outside.specs.Outside.{Rose}
@@ -26,7 +26,7 @@ wanted (Some whole) layouts = Whole
 wanted None (Given plan) = Front plan.mem
 wanted None (Sought known) = Front most_storage
 
--- the system did not open it, or memory ran out
+-- `Unopened` was answered, or memory ran out
 abbrev pub IsUnopened : ℕ → ℕ → Failure → Type 0
 IsUnopened before now (Unopened why) = Rose before now
 IsUnopened before now Memory = now ≡ before

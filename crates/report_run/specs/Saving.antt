@@ -7,7 +7,7 @@ use Rattle.report_run.specs.declared.failures.Failure.{Failure}
 use Rattle.report_run.specs.declared.failures.Failure.TheVariants.{Memory, Unsaved}
 use Rattle.report_run.specs.States.{Folder}
 
--- why not all were made: one was not, or memory ran out and the folder failed at nothing
+-- why not all were made: `Unsaved` was answered, or memory ran out and it was not
 abbrev pub IsKeptBack : ℕ → ℕ → Failure → Type 0
 IsKeptBack before now (Unsaved why) = Rose before now
 IsKeptBack before now Memory = now ≡ before

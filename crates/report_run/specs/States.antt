@@ -3,7 +3,7 @@ use Rattle.std.specs.Prelude.{ℕ, List, Option}
 use Rattle.report_tool.specs.Saved.{Files}
 use Rattle.report_run.specs.Messages.{Seen}
 
--- the files that were made of records, and how often one was not made
+-- the files that were made of records, and how often `Unsaved` was answered
 pub record Folder : Type 0 where
   pub files : Option Files
   pub faults : ℕ
@@ -20,7 +20,7 @@ pub record State : Type 0 where
 abbrev pub state : Option (List ℕ) → ℕ → Seen → Folder → State
 state out out_faults errors files = record { out = out; out_faults = out_faults; errors = errors; files = files }
 
--- how often a file was not opened, and how often one that was opened was not read
+-- how often `Unopened` was answered, and how often a file that was opened was not read
 pub record Reads : Type 0 where
   pub unopened : ℕ
   pub unread : ℕ

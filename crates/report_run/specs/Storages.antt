@@ -1,5 +1,5 @@
 -- An image that is a storage of the kernel's pstore_zone, or one whose layout is looked for
-use Rattle.std.specs.Prelude.{◌≡◌, ◌⊎◌, ◌≤◌, ℕ, List, [], Option, Some, None}
+use Rattle.std.specs.Prelude.{◌≡◌, ◌⊎◌, ℕ, List, [], Option, Some, None}
 use Rattle.command_spec.specs.declared.Stop.{Stop}
 use Rattle.storage_words.specs.declared.Storages.{Storages}
 use Rattle.storage_spec.specs.Told.{storage_lines}
@@ -39,9 +39,10 @@ pub record IsStorageShown (asked : Asked) (path : List ℕ) (h : HeldStorage) (g
   pub lines : TellsLayout asked.format (lines_on path h) between now a b
 
 -- memory ran out before
-pub record IsUnbegun (given now : Option (List ℕ)) (a b : Seen) (why : Failure) : Type 0 where
+pub record IsUnbegun (given now : Option (List ℕ)) (put_before put_now : ℕ) (a b : Seen) (why : Failure) : Type 0 where
   pub why_is : why ≡ Memory
   pub unput : now ≡ given
+  pub no_put_fault : put_now ≡ put_before
   pub silent : b ≡ a
 
 -- or the report stopped
@@ -64,7 +65,7 @@ pub record IsStorageUnended (asked : Asked) (path : List ℕ) (h : HeldStorage) 
 abbrev pub IsStorageUnshown : Asked → List ℕ → HeldStorage → Option (List ℕ) → Option (List ℕ) → ℕ → ℕ → Seen → Seen
     → Failure → Type 0
 IsStorageUnshown asked path h given now put_before put_now a b why =
-    IsUnbegun given now a b why
+    IsUnbegun given now put_before put_now a b why
     ⊎ (IsStorageStopped asked path h given now put_before put_now a b why
     ⊎ IsStorageUnended asked path h given now put_before put_now a b why)
 
@@ -90,13 +91,15 @@ IsUnloggedReport asked known path holds given now a b report =
 
 -- none was found: nothing was given out
 pub record IsUnseenStorage (storages : Storages) (holds : Option (List ℕ)) (read_before read_now : ℕ)
-    (given now : Option (List ℕ)) (a b : Seen) (why : Failure) : Type 0 where
+    (given now : Option (List ℕ)) (put_before put_now : ℕ) (a b : Seen) (why : Failure) : Type 0 where
   pub cause : IsUnfound storages holds read_before read_now why
   pub unput : now ≡ given
+  pub no_put_fault : put_now ≡ put_before
   pub silent : b ≡ a
 
-pub record IsNotAsStorage (asked : Asked) (path : List ℕ) (holds given now : Option (List ℕ)) (put_before put_now : ℕ)
-    (a b : Seen) (why : Failure) : Type 0 where
+pub record IsNotAsStorage (asked : Asked) (path : List ℕ) (holds : Option (List ℕ)) (read_before read_now : ℕ)
+    (given now : Option (List ℕ)) (put_before put_now : ℕ) (a b : Seen) (why : Failure) : Type 0 where
+  pub no_read_fault : read_now ≡ read_before
   pub storage : HeldStorage
   pub held : IsLookedAt asked.storages holds (Some storage)
   pub cause : IsStorageUnshown asked path storage given now put_before put_now a b why
@@ -105,13 +108,11 @@ pub record IsNotAsLaid (asked : Asked) (known : Known) (path : List ℕ) (holds 
     (read_before read_now : ℕ) (given now : Option (List ℕ)) (put_before put_now : ℕ) (a b : Seen) (why : Failure)
     : Type 0 where
   pub no_storage : IsLookedAt asked.storages holds None
-  pub read_between : ℕ
-  pub later : read_before ≤ read_between
-  pub cause : IsNoSoughtReport asked known path holds read_between read_now given now put_before put_now a b why
+  pub cause : IsNoSoughtReport asked known path holds read_before read_now given now put_before put_now a b why
 
 abbrev pub IsNoUnloggedReport : Asked → Known → List ℕ → Option (List ℕ) → ℕ → ℕ → Option (List ℕ) → Option (List ℕ)
     → ℕ → ℕ → Seen → Seen → Failure → Type 0
 IsNoUnloggedReport asked known path holds read_before read_now given now put_before put_now a b why =
-    IsUnseenStorage asked.storages holds read_before read_now given now a b why
-    ⊎ (IsNotAsStorage asked path holds given now put_before put_now a b why
+    IsUnseenStorage asked.storages holds read_before read_now given now put_before put_now a b why
+    ⊎ (IsNotAsStorage asked path holds read_before read_now given now put_before put_now a b why
     ⊎ IsNotAsLaid asked known path holds read_before read_now given now put_before put_now a b why)

@@ -12,7 +12,7 @@ pub trait Records {
     // The names and contents of the files that were made, in order, where that is told.
     ghost made: { Self → Option Files };
 
-    // How often it has failed.
+    // How often `Unsaved` was answered.
     ghost faults: { Self → ℕ };
 
     /// Makes a file of each record, in order. `Unsaved` is a fault: one was not made, or there is no place for them.

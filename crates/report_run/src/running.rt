@@ -29,7 +29,7 @@ pub trait Images {
     // What the file at a path holds, of which so much is wanted, where that is told.
     ghost content: { Self → List ℕ → Wanted → Option (List ℕ) };
 
-    // How often a file was not opened.
+    // How often `Unopened` was answered.
     ghost unopened: { Self → ℕ };
 
     // How often files that were closed have failed.

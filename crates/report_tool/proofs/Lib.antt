@@ -4,4 +4,5 @@ mod BetterWords
 mod PlanZones
 mod Splits
 mod Tags
+mod TreeHeads
 mod VersionWords

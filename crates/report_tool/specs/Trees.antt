@@ -1,6 +1,6 @@
 -- The parameters that a device tree gives (fs/pstore/ram.c, ramoops_parse_dt)
 use Rattle.std.specs.Prelude.{◌≡◌, ℕ, ◌%◌, ◌==◌, nat_lt, Bool, ◌&&◌, if◌then◌else◌, List, [], ◌∷◌, codes, find, is_none}
-use Rattle.std.specs.Prelude.{Option, Some, None, Result, Ok, Err}
+use Rattle.std.specs.Prelude.{Option, Some, None, Result, Ok, Err, IsOk}
 use Rattle.std.specs.Str.{bytes_eq}
 use Rattle.std.specs.declared.string.String.{String}
 use Rattle.std.specs.declared.alloc.Global.{Global}
@@ -13,6 +13,7 @@ use Rattle.grammar_spec.specs.Words.{texts}
 use Rattle.grammar_spec.specs.ZoneWords.{given, read_by}
 use Rattle.dtb_spec.specs.declared.Numbers.{Numbers}
 use Rattle.dtb_spec.specs.declared.Fault.{Fault}
+use Rattle.dtb_spec.specs.Headers.{header_of}
 use Rattle.dtb_spec.specs.Ramoops.{Ramoops, nodes_of}
 use Rattle.report_tool.specs.declared.plan.Plan.{Plan}
 use Rattle.report_tool.specs.declared.tree.TreeFault.{TreeFault}
@@ -34,9 +35,9 @@ abbrev pub numbers_meant : Option (List ℕ) → List Ramoops → Result Numbers
 numbers_meant None nodes = only_numbers nodes
 numbers_meant (Some path) nodes = numbers_found (find (λ node. bytes_eq node.path path) nodes)
 
--- why a tree has no nodes to choose from
+-- why a tree has no nodes to choose from; no memory is taken before its header is read
 abbrev pub HasNoNodes : List ℕ → TreeFault → Type 0
-HasNoNodes tree Memory = Unit {0}
+HasNoNodes tree Memory = IsOk (header_of tree)
 HasNoNodes tree (Tree fault) = nodes_of tree ≡ Err fault
 HasNoNodes tree other = ⊥
 
@@ -50,7 +51,7 @@ address_in path (Err fault) = Err (Tree fault)
 address_in path (Ok nodes) = address_of (numbers_meant path nodes)
 
 abbrev pub IsNoAddress : List ℕ → Option (List ℕ) → TreeFault → Type 0
-IsNoAddress tree path Memory = Unit {0}
+IsNoAddress tree path Memory = IsOk (header_of tree)
 IsNoAddress tree path other = address_in path (nodes_of tree) ≡ Err other
 
 -- what a node says: all of its region, parity in bytes
@@ -106,6 +107,6 @@ pub record HasTreeLayoutFault (read : Result Params TreeFault) (fault : LayoutFa
 
 -- why there is no plan
 abbrev pub IsTreeFault : List ℕ → Option (List ℕ) → List (String Global) → TreeFault → Type 0
-IsTreeFault tree path words Memory = Unit {0}
+IsTreeFault tree path words Memory = IsOk (header_of tree)
 IsTreeFault tree path words (Layout fault) = HasTreeLayoutFault (params_in path words (nodes_of tree)) fault
 IsTreeFault tree path words other = params_in path words (nodes_of tree) ≡ Err other

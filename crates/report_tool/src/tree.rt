@@ -160,8 +160,8 @@ fn params_in(
 impl Plan {
     /// The plan of a board's flattened device tree (`fs/pstore/ram.c`, `ramoops_parse_dt`): of its only ramoops node,
     /// or of the node of this path, as `/reserved-memory/ramoops@8f000000`. Words (`key=value`) count more than the
-    /// node; what neither gives, the number of processors and the tag of ftrace zones, is 1 and 0, and the order of the zones that of Linux 6.1, unless a record
-    /// names a kernel with another.
+    /// node. If neither tells, there is 1 processor, the tag of ftrace zones is 0, and the zones are in the order of
+    /// Linux 6.1, unless a record names a kernel with another.
     pub fn of_tree(
         alloc: Global,
         tree: &[u8],

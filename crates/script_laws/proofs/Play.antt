@@ -3,6 +3,7 @@ use Rattle.std.proofs.Common.{◌≡◌, ℕ, zero, suc, ◌+◌, ◌<◌, ◌�
 use Rattle.std.proofs.Common.{None, Result, Ok, Err, refl, sym, ap, ◌∙◌, arith, append_assoc, append-nil, length-append}
 use Rattle.std.proofs.lemmas.List.Sums.{fold_more}
 use Rattle.std.proofs.lemmas.List.Folds.{fold_stuck}
+use Rattle.std.proofs.lemmas.Option.{slice_get_read}
 use Rattle.std.proofs.lemmas.Grind.{common_steps}
 use Rattle.std.proofs.Math.Seq.{take-append-add}
 use Rattle.std.specs.List.{fold}
@@ -16,7 +17,7 @@ use Rattle.grammar_spec.specs.declared.line.Line.{Line}
 use Rattle.script_spec.specs.Scripts.{Kernel, Done, Ran, ran, ran_on, next_line, started, line_done}
 use Rattle.script_spec.specs.Texts.{front, whole}
 use Rattle.script_spec.specs.declared.Cause.{Cause}
-use Rattle.script_spec.specs.Playing.{PutTexts, PutSome, Played, PlayedTo, PlayedBefore}
+use Rattle.script_spec.specs.Playing.{PutSome, Played, PlayedTo, PlayedBefore, TakesMemory, StopsTaking}
 
 -- text, and then the front of more
 pub front_on : (a b c : Option (List ℕ)) (xs ys : List ℕ) → Appends a b xs → AppendsFront b c ys
@@ -162,14 +163,32 @@ pub played_all : (layout : List Zone) (image : List ℕ) (lines : List Line) (i 
     → Played layout image lines session a b
 played_all layout image lines i session kernel a b h p = rw (take_all_lines lines i h) at p.so_far
 
--- want of memory at a line
-pub stopped_memory : (layout : List Zone) (image : List ℕ) (lines : List Line) (i : ℕ) (session : Session)
-    (kernel : Kernel) (a b : Option (List ℕ)) → PlayedTo layout image lines i session kernel a b
-    → PutTexts (ran layout image lines).texts a b
-stopped_memory layout image lines i session kernel a b p =
+-- the texts of some first lines are no more than all
+no_more : (short long : List Text) → Extends short long → length short ≤ length long
+no_more short long h = rw h.is (omega (arith, length-append short h.more))
+
+-- a line that takes memory found none, and is not refused
+pub stopped_taking : (layout : List Zone) (image : List ℕ) (lines : List Line) (i : ℕ) (line : Line)
+    (d : Done) (session : Session) (kernel : Kernel) (a b : Option (List ℕ)) → i < length lines → line ≡ get_or lines i line
+    → PlayedTo layout image lines i session kernel a b → line_done layout session kernel line ≡ Ok d
+    → TakesMemory line → StopsTaking layout image lines a b
+stopped_taking layout image lines i line d session kernel a b h is p g takes =
+    let r = ran layout image (take i lines) in
+    let e = done_at layout image lines i line d h is p.so_far.none (rw (p.so_far.state, p.kernel_is) g) in
+    let one : length (ran layout image (take (i + 1) lines)).texts ≡ i + 1 =
+    rw e (omega (arith, length-append r.texts (d.text ∷ []), p.count)) in
     record {
-      count = length (ran layout image (take i lines)).texts;
-      bytes = rw (prefix_front layout image lines i) p.so_far.texts;
+      count = i;
+      line = line;
+      next = slice_get_read lines (length lines) i line refl h is;
+      wanted = omega (
+        arith,
+        one,
+        no_more (ran layout image (take (i + 1) lines)).texts (ran layout image lines).texts
+            (take_extends layout lines (i + 1) (started layout image)),
+      );
+      takes = takes;
+      bytes = rw (← p.count, prefix_front layout image lines i) p.so_far.texts;
     }
 
 -- a line was refused

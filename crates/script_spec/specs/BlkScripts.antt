@@ -1,5 +1,5 @@
 -- What the lines of a script do and put on the block store
-use Rattle.std.specs.Prelude.{◌≡◌, ◌⊎◌, ⊤, ℕ, ◌+◌, ◌<◌, ◌==◌, if◌then◌else◌, List, [], ◌∷◌, ◌++◌, length, take, drop}
+use Rattle.std.specs.Prelude.{◌≡◌, ◌⊎◌, ℕ, ◌+◌, ◌<◌, ◌==◌, if◌then◌else◌, List, [], ◌∷◌, ◌++◌, length, take, drop}
 use Rattle.std.specs.Prelude.{flat_map, slice_get, fold, codes, decimal, bytes_eq, Option, Some, None, Result, Ok, Err}
 use Rattle.std.specs.List.{find}
 use Rattle.zone_spec.specs.declared.Kind.{Kind}
@@ -135,13 +135,6 @@ performs_if layout session (Some operation) = performs layout session operation
 unfoldable pub blk_line_done : BlkLayout → Session → Line → Result BlkDone Cause
 blk_line_done layout session Blank = Ok (record { session = session; text = [] })
 blk_line_done layout session line = performs_if layout session (operation_of session.blk line)
-
--- the lines that take memory: a loading, a listing, and a record's text
-abbrev pub TakesMemory : Line → Type 0
-TakesMemory Boot = ⊤
-TakesMemory ListLine = ⊤
-TakesMemory (Extract name) = ⊤
-TakesMemory other = ⊥
 
 -- ---- what a line writes
 

@@ -6,8 +6,8 @@ use Rattle.blk_spec.specs.Writes.{after_writes, bytes_in, first_bytes}
 use Rattle.grammar_spec.specs.Fields.{Text}
 use Rattle.grammar_spec.specs.declared.line.Line.{Line}
 use Rattle.script_spec.specs.Texts.{front, whole}
-use Rattle.script_spec.specs.BlkScripts.{blk_ran, line_writes, NeedsStore, TakesMemory}
-use Rattle.script_spec.specs.Playing.{LinesEnd}
+use Rattle.script_spec.specs.BlkScripts.{blk_ran, line_writes, NeedsStore}
+use Rattle.script_spec.specs.Playing.{LinesEnd, TakesMemory}
 use Rattle.script_spec.specs.declared.Cause.{Cause}
 use Rattle.script_spec.specs.declared.LineStop.{LineStop}
 use Rattle.script_spec.specs.declared.LineStop.TheVariants.{Memory, StoreFault, SinkFault, Refused}

@@ -1,11 +1,13 @@
 -- Doing the lines of a script in order, and why they stop
-use Rattle.std.specs.Prelude.{◌≡◌, ◌≢◌, ⊤, ℕ, ◌+◌, List, length, take, Option, Some, None, Result, Ok, Err}
+use Rattle.std.specs.Prelude.{◌≡◌, ◌≢◌, ⊤, ℕ, ◌+◌, ◌<◌, List, length, take, slice_get, Option, Some, None, Result, Ok}
+use Rattle.std.specs.Prelude.{Err}
 use Rattle.std.specs.Io.KnownBytes.{Appends}
 use Rattle.outside.specs.Outside.{Rose, AppendsFront}
 use Rattle.zone_spec.specs.declared.Zone.{Zone}
 use Rattle.machine_spec.specs.States.{Session}
 use Rattle.grammar_spec.specs.Fields.{Text}
 use Rattle.grammar_spec.specs.declared.line.Line.{Line}
+use Rattle.grammar_spec.specs.declared.line.Line.TheVariants.{Boot, BootPart, List as ListLine, Extract, Crash}
 use Rattle.script_spec.specs.Scripts.{Kernel, ran}
 use Rattle.script_spec.specs.Texts.{front, whole}
 use Rattle.script_spec.specs.declared.Cause.{Cause}
@@ -20,6 +22,16 @@ LinesEnd = Result (Unit {0}) LineStop
 abbrev pub KeptUnless : {T S : Type 0} → S → Result T S → ℕ → ℕ → Type 0
 KeptUnless fault (Ok done) before now = now ≡ before
 KeptUnless fault (Err stop) before now = stop ≢ fault → now ≡ before
+
+-- the lines that take memory: a boot, whole or in part, a listing, a record's text, the body of a crash. The block
+-- store refuses a boot in part and a crash
+abbrev pub TakesMemory : Line → Type 0
+TakesMemory Boot = ⊤
+TakesMemory (BootPart limit) = ⊤
+TakesMemory ListLine = ⊤
+TakesMemory (Extract name) = ⊤
+TakesMemory (Crash reason time) = ⊤
+TakesMemory other = ⊥
 
 -- ---- texts
 
@@ -61,9 +73,19 @@ pub record PlayedBefore (layout : List Zone) (image : List ℕ) (lines : List Li
   pub refused : (ran layout image lines).refused ≡ Some cause
   pub texts : Appends old new (whole (ran layout image lines).texts)
 
+-- some first lines were done, and their texts put; the next, which is not refused and takes memory, found none
+pub record StopsTaking (layout : List Zone) (image : List ℕ) (lines : List Line) (old new : Option (List ℕ))
+    : Type 0 where
+  pub count : ℕ
+  pub line : Line
+  pub next : slice_get lines count ≡ Some line
+  pub wanted : count < length (ran layout image lines).texts
+  pub takes : TakesMemory line
+  pub bytes : Appends old new (front (ran layout image lines).texts count)
+
 -- why the lines of a script stop: the texts of the lines before were put, or some front of them and the next
 abbrev pub PlayStop : LineStop → List Zone → List ℕ → List Line → Option (List ℕ) → Option (List ℕ) → ℕ → ℕ → Type 0
-PlayStop Memory layout image lines old new before now = PutTexts (ran layout image lines).texts old new
+PlayStop Memory layout image lines old new before now = StopsTaking layout image lines old new
 PlayStop StoreFault layout image lines old new before now = ⊥
 PlayStop SinkFault layout image lines old new before now =
     Rose before now × PutSome (ran layout image lines).texts old new

@@ -1,7 +1,7 @@
 -- A reservation and a step of a shared zone are the definitions'
-use Rattle.std.proofs.Common.{◌≡◌, ◌≢◌, ℕ, suc, ◌+◌, ◌%◌, ◌<◌, min, Bool, true, false, cond, ◌==◌, List, [], ◌∷◌, ◌++◌}
+use Rattle.std.proofs.Common.{◌≡◌, ◌≢◌, ℕ, suc, ◌+◌, ◌%◌, ◌<◌, Bool, true, false, cond, ◌==◌, List, [], ◌∷◌, ◌++◌}
 use Rattle.std.proofs.Common.{length, map, take, drop, set, refl, sym, ap, ap₂, ◌∙◌, subst, arith, Some, None, Option}
-use Rattle.std.proofs.Common.{Ok, Err, inl, inr, w32, eq-eqb, append-nil, length-append, length-set}
+use Rattle.std.proofs.Common.{Ok, Err, inl, inr, eq-eqb, append-nil, length-append, length-set}
 use Rattle.std.proofs.lemmas.Bool.{cases_order, lt-ltb, ltb-true}
 use Rattle.std.proofs.lemmas.List.{map-append, take-map, drop-map}
 use Rattle.std.proofs.lemmas.Option.{slice_get_within}
@@ -24,7 +24,7 @@ use Rattle.shared_laws.proofs.Counts.{open_call-some, open_call-is}
 use Rattle.shared_laws.proofs.Seats.{one_more_operation, places_follow_first, shown_after_reservation, shown_after_step}
 use Rattle.shared_ring.specs.declared.seats.Seat.{Seat}
 use Rattle.shared_ring.specs.Seats.{is_of, call_of, shown_seat, one_more, seats_stepped, next_of}
-use Rattle.shared_ring.specs.Seen.{SharedSeen, bytes_of, words_seen, StandsFor, IsLeftBy, seated, stepped, words_store}
+use Rattle.shared_ring.specs.Seen.{SharedSeen, bytes_of, words_seen, StandsFor, IsLeftBy, seated, stepped, words_after}
 use Rattle.shared_ring.specs.Seen.{byte_store, reserving, next_store, IsStepped}
 use Rattle.prz_region.specs.CutRegion.{stored}
 use Rattle.shared_ring.proofs.SeatLists.{more_cases, each_stepped, set_pieces}
@@ -32,7 +32,6 @@ use Rattle.shared_ring.proofs.Tickets.{AreRising, after_own}
 use Rattle.prz_region.proofs.Cuts.{spans-length}
 use Rattle.shared_ring.proofs.Regions.{before_stored, after_stored, one_stored}
 use Rattle.shared_ring.proofs.RingView.{shown_at, rising, seat_place, no_call, the_seat}
-use Rattle.zone_spec.specs.WordBytes.{word_bytes}
 
 -- ---- a reservation
 
@@ -50,8 +49,7 @@ pub reserved_stands : (z : Zone) (image : List ℕ) (os : List SharedOperation) 
 reserved_stands z image os can whole v payload s some =
     let shared : SharedZone = shared_after z (opened z image) os in
     let new : SharedCall = record { payload = payload; stored = 0 } in
-    let n : Store = words_store v.zone.byte_order (((words_seen v).start + length payload) % v.zone.cap)
-    (min v.zone.cap ((words_seen v).size + length payload)) in
+    let n : Store = words_after v.zone (words_seen v) (length payload) in
     let start : (words_seen v).start ≡ (standing_words z shared.image).start =
     ap (λ (y : Zone). (standing_words y (bytes_of v)).start) s.zone
     ∙ ap (λ (bytes : List ℕ). (standing_words z bytes).start) s.bytes in
@@ -59,12 +57,9 @@ reserved_stands z image os can whole v payload s some =
       zone = s.zone;
       there = omega (arith, s.there, spans-length v.region v.place (n ∷ []));
       bytes = one_stored v.region v.place n s.there
-          ∙ ap (λ (y : Zone). put (bytes_of v) 4
-          (word_bytes y.byte_order (((standing_words y (bytes_of v)).start + length payload) % y.cap)
-          ++ word_bytes y.byte_order (min y.cap ((standing_words y (bytes_of v)).size + length payload)))) s.zone
-          ∙ ap (λ (bytes : List ℕ). put bytes 4
-          (word_bytes z.byte_order (((standing_words z bytes).start + length payload) % z.cap)
-          ++ word_bytes z.byte_order (min z.cap ((standing_words z bytes).size + length payload)))) s.bytes;
+          ∙ ap (λ (y : Zone). put (bytes_of v) 4 (words_after y (standing_words y (bytes_of v)) (length payload)).bytes)
+          s.zone
+          ∙ ap (λ (bytes : List ℕ). put bytes 4 (words_after z (standing_words z bytes) (length payload)).bytes) s.bytes;
       before = before_stored v.region v.place (n ∷ []) ∙ s.before;
       after = after_stored v.region v.place (n ∷ []) ∙ s.after;
       reserved = omega (arith, s.reserved, length-append shared.calls (new ∷ []));
@@ -223,12 +218,10 @@ left_idle h v t l e = left_as h (StoreNext t) v (shared_zone h) l.can
 pub reserved_in : (h : History) (v : SharedSeen) (payload : List ℕ) → IsLeftBy h v
     → (seated v payload).region ≡ stored v.region v.place (reserving h.zone (shared_zone h) payload ∷ [])
 reserved_in h v payload l =
-    ap (λ (y : Zone). stored v.region v.place (words_store y.byte_order
-    (((standing_words y (bytes_of v)).start + length payload) % y.cap)
-    (min y.cap ((standing_words y (bytes_of v)).size + length payload)) ∷ [])) l.stands.zone
-    ∙ ap (λ (bytes : List ℕ). stored v.region v.place (words_store h.zone.byte_order
-    (((standing_words h.zone bytes).start + length payload) % h.zone.cap)
-    (min h.zone.cap ((standing_words h.zone bytes).size + length payload)) ∷ [])) l.stands.bytes
+    ap (λ (y : Zone).
+    stored v.region v.place (words_after y (standing_words y (bytes_of v)) (length payload) ∷ [])) l.stands.zone
+    ∙ ap (λ (bytes : List ℕ).
+    stored v.region v.place (words_after h.zone (standing_words h.zone bytes) (length payload) ∷ [])) l.stands.bytes
 
 pub stepped_in : (h : History) (v : SharedSeen) (i t : ℕ) (x : Seat) (c : SharedCall) → IsLeftBy h v
     → slice_get v.seats i ≡ Some x → x.ticket ≡ t → open_call (shared_zone h).calls t ≡ Some c

@@ -2,7 +2,6 @@
 use Rattle.std.specs.Prelude.{◌≡◌, ℕ, ◌+◌, ◌%◌, ◌^◌, ◌<◌, ◌≤◌, min, List, [], ◌∷◌, ◌++◌, length, map, take, drop}
 use Rattle.std.specs.Prelude.{slice_get, slice_index, Option, Some, None, Result, Ok, Err}
 use Rattle.std.specs.List.{concat}
-use Rattle.std.proofs.Common.{w32}
 use Rattle.zone_spec.specs.declared.Zone.{Zone}
 use Rattle.zone_spec.specs.declared.Words.{Words}
 use Rattle.zone_spec.specs.declared.params.ByteOrder.{ByteOrder}
@@ -73,6 +72,10 @@ stores v = length v.region.made
 abbrev pub words_store : ByteOrder → ℕ → ℕ → Store
 words_store order start size = record { place = 4; bytes = word_bytes order start ++ word_bytes order size }
 
+-- the store of a reservation in a ring with these words: those after so many bytes more
+abbrev pub words_after : Zone → Words → ℕ → Store
+words_after z w n = words_store z.byte_order ((w.start + n) % z.cap) (min z.cap (w.size + n))
+
 -- one store of a data byte
 abbrev pub byte_store : ℕ → ℕ → Store
 byte_store place b = record { place = 12 + place; bytes = b ∷ [] }
@@ -81,11 +84,9 @@ byte_store place b = record { place = 12 + place; bytes = b ∷ [] }
 abbrev pub HasStored : SharedSeen → SharedSeen → Store → Type 0
 HasStored old new s = new.region ≡ stored old.region old.place (s ∷ [])
 
--- the store of a reservation: the words of the ring to which the payload is appended
+-- the store of a reservation of the shared zone
 abbrev pub reserving : Zone → SharedZone → List ℕ → Store
-reserving z shared payload = words_store z.byte_order
-    (((standing_words z shared.image).start + length payload) % z.cap)
-    (min z.cap ((standing_words z shared.image).size + length payload))
+reserving z shared payload = words_after z (standing_words z shared.image) (length payload)
 
 -- the store of a step: the call's next byte, at its place
 abbrev pub next_store : Zone → SharedZone → ℕ → SharedCall → Store
@@ -94,8 +95,7 @@ next_store z shared ticket c = byte_store (call_place z shared ticket c.stored) 
 -- after a reservation, which is one store
 abbrev pub seated : SharedSeen → List ℕ → SharedSeen
 seated v payload = record {
-  region = stored v.region v.place (words_store v.zone.byte_order (((words_seen v).start + length payload) % v.zone.cap)
-      (min v.zone.cap ((words_seen v).size + length payload)) ∷ []);
+  region = stored v.region v.place (words_after v.zone (words_seen v) (length payload) ∷ []);
   place = v.place;
   zone = v.zone;
   reserved = v.reserved + 1;

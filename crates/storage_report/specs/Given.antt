@@ -35,10 +35,11 @@ pub record IsCutShort (format : Format) (path : List ℕ) (h : HeldStorage) (nam
   pub appended : AppendsFront given now text
   pub rose : Rose put_before put_now
 
--- why it was not reported. Where memory ran out the sink was given nothing
+-- why it was not reported. Where memory ran out the sink was given nothing, and did not fail
 abbrev pub IsUnreported : Format → List ℕ → HeldStorage → List ℕ → ℕ → Option (List ℕ) → Option (List ℕ) → ℕ → ℕ
     → Stop → Type 0
-IsUnreported format path h names lines given now put_before put_now Memory = now ≡ given
+IsUnreported format path h names lines given now put_before put_now Memory =
+    (now ≡ given) × (put_now ≡ put_before)
 IsUnreported format path h names lines given now put_before put_now SinkFault =
     IsCutShort format path h names lines given now put_before put_now
 IsUnreported format path h names lines given now put_before put_now other = ⊥

@@ -1,6 +1,5 @@
 -- The storage that an image is
 use Rattle.std.specs.Prelude.{◌≡◌, ⊤, ℕ, List, Option, Some, None, Ok, Err, IfSome}
-use Rattle.image_file.specs.Loading.{FrontStop}
 use Rattle.psz_spec.specs.declared.Sizes.{Sizes}
 use Rattle.storage_words.specs.declared.Storages.{Storages}
 use Rattle.storage_words.specs.declared.Storages.TheVariants.{Never, Shown, All}
@@ -13,6 +12,7 @@ use Rattle.storage_words.specs.Division.{storage_of}
 use Rattle.storage_report.specs.declared.storage.HeldStorage.{HeldStorage}
 use Rattle.storage_report.specs.declared.storage.NoStorage.{NoStorage}
 use Rattle.storage_report.specs.declared.storage.NoStorage.TheVariants.{Stopped, Undivided}
+use Rattle.storage_report.specs.Faults.{IsUnread}
 
 -- a copy of an image, that may have other bytes, and shows the same of a storage: readings, records and lines
 pub record ShowsTheSame (s : Storage) (image copy : List ℕ) : Type 0 where
@@ -44,9 +44,9 @@ abbrev pub IsDivided : Sizes → Option (List ℕ) → HeldStorage → Type 0
 IsDivided sizes holds h = IfSome holds (λ image. IsDividedBy sizes (front_of image) h)
 
 abbrev pub IsUndivided : Sizes → Option (List ℕ) → ℕ → ℕ → NoStorage → Type 0
-IsUndivided sizes holds before now (Stopped stop) = FrontStop stop before now
+IsUndivided sizes holds before now (Stopped stop) = IsUnread stop before now
 IsUndivided sizes holds before now (Undivided fault) =
-    IfSome holds (λ image. storage_of sizes (front_of image) ≡ Err fault)
+    (now ≡ before) × IfSome holds (λ image. storage_of sizes (front_of image) ≡ Err fault)
 
 -- ---- as files are looked at
 
@@ -57,9 +57,9 @@ IsLookedAt Shown holds held = IsHeld holds held
 IsLookedAt (All sizes) holds None = ⊥
 IsLookedAt (All sizes) holds (Some h) = IsDivided sizes holds h
 
--- why it is not known, by the count of faults before and now
+-- why it is not known, by the count of faults before and now; a read failed only if that is told
 abbrev pub IsNotLookedAt : Storages → Option (List ℕ) → ℕ → ℕ → NoStorage → Type 0
 IsNotLookedAt Never holds before now why = ⊥
-IsNotLookedAt Shown holds before now (Stopped stop) = FrontStop stop before now
+IsNotLookedAt Shown holds before now (Stopped stop) = IsUnread stop before now
 IsNotLookedAt Shown holds before now (Undivided fault) = ⊥
 IsNotLookedAt (All sizes) holds before now why = IsUndivided sizes holds before now why

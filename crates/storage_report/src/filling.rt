@@ -1,8 +1,8 @@
 // A copy of an image with the bytes that its report needs.
 ghost use Rattle.std.specs.Prelude.{◌≡◌, ◌≤◌, length, take, None, IfOk, IfErr, OnOk, IfSome};
 ghost use Rattle.psz_spec.specs.Layouts.{size_fault};
-ghost use Rattle.image_file.specs.Loading.{FrontStop};
 ghost use Rattle.storage_zones.specs.Laws.{ReadTheSame};
+ghost use Rattle.storage_report.specs.Faults.{IsUnread};
 ghost use Rattle.storage_report.specs.Copies.{IsFilled, IsLogFilled, Keeps, HasZone, HasZones, front_of as front_by};
 
 use command_spec::Stop;
@@ -18,7 +18,7 @@ fn fill<M: Load>(image: &mut M, copy: &mut [u8], span: Span) -> Result<(), Stop>
     requires { IfSome (M.holds image.old) (λ bs. length copy.old ≤ length bs) }
     ensures filled { OnOk result (IfSome (M.holds image.old)
         (λ bs. IsFilled (take (length copy.old) bs) span copy.old copy.new)) }
-    ensures err { IfErr result (λ s. FrontStop s (M.faults image.old) (M.faults image.new)) }
+    ensures err { IfErr result (λ s. IsUnread s (M.faults image.old) (M.faults image.new)) }
     ensures done { OnOk result (M.faults image.new ≡ M.faults image.old) }
     ensures same { M.holds image.new ≡ M.holds image.old }
     ensures later { M.faults image.old ≤ M.faults image.new }
@@ -50,7 +50,7 @@ fn fill_log<M: Load>(image: &mut M, copy: &mut [u8], part: Option<Part>) -> Resu
     requires { IfSome (M.holds image.old) (λ bs. length copy.old ≤ length bs) }
     ensures filled { OnOk result (IfSome (M.holds image.old)
         (λ bs. IsLogFilled (take (length copy.old) bs) part copy.old copy.new)) }
-    ensures err { IfErr result (λ s. FrontStop s (M.faults image.old) (M.faults image.new)) }
+    ensures err { IfErr result (λ s. IsUnread s (M.faults image.old) (M.faults image.new)) }
     ensures done { OnOk result (M.faults image.new ≡ M.faults image.old) }
     ensures same { M.holds image.new ≡ M.holds image.old }
     ensures later { M.faults image.old ≤ M.faults image.new }
@@ -74,7 +74,7 @@ fn fill_zone<M: Load>(
         (λ bs. Keeps (take (length copy.old) bs) copy.old copy.new)) }
     ensures has { OnOk result (IfSome (M.holds image.old)
         (λ bs. HasZone machine (take (length copy.old) bs) copy.new zone.now)) }
-    ensures err { IfErr result (λ s. FrontStop s (M.faults image.old) (M.faults image.new)) }
+    ensures err { IfErr result (λ s. IsUnread s (M.faults image.old) (M.faults image.new)) }
     ensures done { OnOk result (M.faults image.new ≡ M.faults image.old) }
     ensures same { M.holds image.new ≡ M.holds image.old }
     ensures later { M.faults image.old ≤ M.faults image.new }
@@ -93,7 +93,7 @@ fn fill_zones<M: Load>(
     requires { IfSome (M.holds image.old) (λ bs. length copy.old ≤ length bs) }
     ensures has { OnOk result (IfSome (M.holds image.old)
         (λ bs. HasZones machine zones.now (take (length copy.old) bs) copy.new)) }
-    ensures err { IfErr result (λ s. FrontStop s (M.faults image.old) (M.faults image.new)) }
+    ensures err { IfErr result (λ s. IsUnread s (M.faults image.old) (M.faults image.new)) }
     ensures done { OnOk result (M.faults image.new ≡ M.faults image.old) }
     ensures same { M.holds image.new ≡ M.holds image.old }
     ensures later { M.faults image.old ≤ M.faults image.new }
@@ -116,7 +116,7 @@ pub(crate) fn copy_of<M: Load>(
     requires inside { IfSome (M.holds image.old) (λ bs. total ≤ length bs) }
     ensures reads { IfOk result (λ copy. IfSome (M.holds image.old)
         (λ bs. ReadTheSame storage.now (take total bs) copy.items)) }
-    ensures err { IfErr result (λ s. FrontStop s (M.faults image.old) (M.faults image.new)) }
+    ensures err { IfErr result (λ s. IsUnread s (M.faults image.old) (M.faults image.new)) }
     ensures no_fault { OnOk result (M.faults image.new ≡ M.faults image.old) }
     ensures same { M.holds image.new ≡ M.holds image.old }
     ensures later { M.faults image.old ≤ M.faults image.new }

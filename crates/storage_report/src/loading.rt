@@ -3,8 +3,8 @@ ghost use Rattle.std.specs.Prelude.{◌≡◌, ◌≤◌, List, ℕ, length, tak
 ghost use Rattle.psz_spec.specs.Layouts.{size_fault};
 ghost use Rattle.psz_spec.specs.Marks.{order_in, marks_in};
 ghost use Rattle.storage_spec.specs.Found.{front_of, machine_of, storage_in};
-ghost use Rattle.image_file.specs.Loading.{FrontStop};
 ghost use Rattle.storage_words.specs.Division.{sized as sized_by};
+ghost use Rattle.storage_report.specs.Faults.{IsUnread};
 ghost use Rattle.storage_report.specs.Scans.{machine_by};
 ghost use Rattle.storage_report.specs.Held.{ShowsTheSame, IsHeld, IsDivided, IsUndivided};
 ghost use Rattle.storage_report.specs.Held.{IsLookedAt, IsNotLookedAt};
@@ -28,7 +28,7 @@ const MOST: u64 = 134_217_728;
 fn front_len<M: Load>(image: &mut M) -> Result<u32, Stop>
     ensures inside { IfOk result (λ n. IfSome (M.holds image.old) (λ bs. n ≤ length bs)) }
     ensures front { IfOk result (λ n. IfSome (M.holds image.old) (λ bs. take n bs ≡ front_of bs)) }
-    ensures err { IfErr result (λ s. FrontStop s (M.faults image.old) (M.faults image.new)) }
+    ensures err { IfErr result (λ s. IsUnread s (M.faults image.old) (M.faults image.new)) }
     ensures done { OnOk result (M.faults image.new ≡ M.faults image.old) }
     ensures same { M.holds image.new ≡ M.holds image.old }
     ensures later { M.faults image.old ≤ M.faults image.new }
@@ -51,7 +51,7 @@ fn held<M: Load>(
     ensures storage { IfOk result (λ h. h.storage ≡ storage) }
     ensures shows { IfOk result (λ h. IfSome (M.holds image.old)
         (λ bs. ShowsTheSame storage (take total bs) h.bytes.items)) }
-    ensures err { IfErr result (λ s. FrontStop s (M.faults image.old) (M.faults image.new)) }
+    ensures err { IfErr result (λ s. IsUnread s (M.faults image.old) (M.faults image.new)) }
     ensures no_fault { OnOk result (M.faults image.new ≡ M.faults image.old) }
     ensures same { M.holds image.new ≡ M.holds image.old }
     ensures later { M.faults image.old ≤ M.faults image.new }
@@ -74,7 +74,7 @@ fn shown_by(total: u32, seen: &Seen) -> Option<Storage>
 // The storage that the front of an image shows: one dump at least must stand there.
 fn shown_storage<M: Load>(alloc: Global, image: &mut M) -> Result<Option<HeldStorage>, Stop>
     ensures held { IfOk result (IsHeld (M.holds image.old)) }
-    ensures err { IfErr result (λ s. FrontStop s (M.faults image.old) (M.faults image.new)) }
+    ensures err { IfErr result (λ s. IsUnread s (M.faults image.old) (M.faults image.new)) }
     ensures no_fault { OnOk result (M.faults image.new ≡ M.faults image.old) }
     ensures same { M.holds image.new ≡ M.holds image.old }
     ensures later { M.faults image.old ≤ M.faults image.new }

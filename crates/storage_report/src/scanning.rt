@@ -4,9 +4,9 @@ ghost use Rattle.std.specs.Prelude.{◌↔◌, IsTrue, None, Option, IfOk, IfErr
 ghost use Rattle.psz_spec.specs.Marks.{as_marks, order_in, marks_in};
 ghost use Rattle.storage_spec.specs.Found.{machine_of};
 ghost use Rattle.outside.specs.Outside.{HasCause};
-ghost use Rattle.image_file.specs.Loading.{FrontStop};
 ghost use Rattle.storage_report.specs.Scans.{order_more as order_with, mark_more as mark_with, shown_by as shown_with};
 ghost use Rattle.storage_report.specs.Scans.{machine_more as machine_with, machine_by, is_decided};
+ghost use Rattle.storage_report.specs.Faults.{IsUnread};
 ghost use Rattle.storage_report.specs.Pieces.{IsPieceOf, HasBlock};
 
 use command_spec::Stop;
@@ -168,7 +168,7 @@ impl Piece {
         requires piece { IsPieceOf (M.holds image.old) self.old }
         ensures has { OnOk result (HasBlock at self.new) }
         ensures piece { OnOk result (IsPieceOf (M.holds image.old) self.new) }
-        ensures err { IfErr result (λ s. FrontStop s (M.faults image.old) (M.faults image.new)) }
+        ensures err { IfErr result (λ s. IsUnread s (M.faults image.old) (M.faults image.new)) }
         ensures done { OnOk result (M.faults image.new ≡ M.faults image.old) }
         ensures same { M.holds image.new ≡ M.holds image.old }
         ensures later { M.faults image.old ≤ M.faults image.new }
@@ -211,7 +211,7 @@ pub(crate) fn scan<M: Load>(
         (λ bs. machine_by s.order s.shown ≡ machine_of (take total bs))) }
     ensures marks { whole ≡ true → IfOk result (λ s. IfSome (M.holds image.old)
         (λ bs. s.marks.items ≡ marks_in (order_in (take total bs)) (take total bs))) }
-    ensures err { IfErr result (λ s. FrontStop s (M.faults image.old) (M.faults image.new)) }
+    ensures err { IfErr result (λ s. IsUnread s (M.faults image.old) (M.faults image.new)) }
     ensures done { OnOk result (M.faults image.new ≡ M.faults image.old) }
     ensures same { M.holds image.new ≡ M.holds image.old }
     ensures later { M.faults image.old ≤ M.faults image.new }

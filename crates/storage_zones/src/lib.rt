@@ -1,5 +1,5 @@
 //! A storage that the kernel's pstore_zone wrote (`fs/pstore/zone.c`), read as a region is: its zones with what a boot
-//! takes them for, the records that the next boot lists, and whether the bytes of a file show a storage.
+//! takes them for, the records that the next boot lists, and the storage of the sizes that its headers show.
 #![tactic(auto)]
 
 mod contents;

@@ -1,6 +1,6 @@
 // A loaded block store.
 ghost use Rattle.std.specs.Prelude.{◌≡◌, ℕ, ◌+◌, ◌-◌, ◌^◌, ◌<◌, ◌≤◌, bytes_eq, length, IfOk, IfSome, Err, Some, None};
-ghost use Rattle.std.specs.Prelude.{is_some, IsTrue};
+ghost use Rattle.std.specs.Prelude.{is_some, IsTrue, OnOk};
 ghost use Rattle.std.specs.List.{find};
 ghost use Rattle.std.specs.Option.{option_map};
 ghost use Rattle.outside.specs.Outside.{HasCause, Rose};
@@ -271,6 +271,7 @@ impl Blk {
         ensures answer { let a = device (M.holds store.old) (M.writes store.old) (M.read_faults store.old) in
             let b = device (M.holds store.new) (M.writes store.new) (M.read_faults store.new) in
             Loads result layout a b }
+        ensures unread { OnOk result (M.read_faults store.new ≡ M.read_faults store.old) }
         ensures room { (n : ℕ) → HasRoom n (M.holds store.old) → HasRoom n (M.holds store.new) }
         ensures later { M.faults store.old ≤ M.faults store.new }
         ensures cause { result ≡ Err StoreFault → Rose (M.faults store.old) (M.faults store.new) }

@@ -36,8 +36,8 @@ fn begins_with_line(table: &[u128], image: &[u8], zone: &Zone) -> bool
     read_line(&front[..count]).is_some()
 }
 
-/// Whether a ring with these words can be appended to.
-pub fn is_open(words: Words, cap: u32) -> bool
+// Whether a ring with these words can be appended to.
+fn is_open(words: Words, cap: u32) -> bool
     ensures { result ≡ ((words.start == words.size || words.size == cap) && not (words.start == cap)) }
 {
     (words.start == words.size || words.size == cap) && words.start != cap

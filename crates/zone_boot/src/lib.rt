@@ -11,7 +11,7 @@ mod summaries;
 
 pub use boots::{Boot, Phase};
 pub use copying::copy_log;
-pub use deciding::{Erasure, is_open, keeps};
+pub use deciding::{Erasure, keeps};
 pub use handing::{BootStore, Given};
 pub use summaries::{Counts, Summary, counts_of, read_summary, state_of};
 pub use zone_spec::{State, Words};

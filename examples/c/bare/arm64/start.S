@@ -1,7 +1,8 @@
 /*
  * The start of bare.c on a 64-bit ARM (QEMU's virt, EL1): FP and SIMD on, since the library's code has SIMD instructions;
  * the MMU on, since that code has unaligned accesses, which fault while all memory is device memory. One table maps the
- * first GiB as device memory and the second, the RAM, as cached memory.
+ * first GiB as device memory and the second, the RAM, as cached memory. Before that .bss is made 0, the table too: not
+ * every loader does it, and a reset leaves the run before.
  */
 	.section .text.start, "ax"
 	.globl start
@@ -10,7 +11,13 @@ start:
 	orr x0, x0, #(3 << 20)
 	msr cpacr_el1, x0
 	isb
-	adrp x1, table
+	ldr x0, =__bss_start
+	ldr x1, =_end
+1:	cmp x0, x1
+	b.hs 2f
+	strb wzr, [x0], #1
+	b 1b
+2:	adrp x1, table
 	add x1, x1, :lo12:table
 	ldr x0, =0x60000000000401	/* a block at 0: device, never executed */
 	str x0, [x1]
@@ -34,8 +41,8 @@ start:
 	add x0, x0, :lo12:stack_end
 	mov sp, x0
 	bl bare
-1:	wfi
-	b 1b
+3:	wfi
+	b 3b
 
 	.bss
 	.align 12

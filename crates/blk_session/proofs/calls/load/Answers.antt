@@ -9,7 +9,7 @@ use Rattle.blk_session.proofs.CallLines.{load_done, load_fails}
 use Rattle.blk_session.proofs.calls.load.Goals as goal
 
 pub returns-in-Ok-clause-done : goal.returns-in-Ok-clause-done
-returns-in-Ok-clause-done g c = load_done c.args.layout c.in-Ok.blk _ _ c.in-Ok.ensures.answer
+returns-in-Ok-clause-done g c = load_done c.args.layout c.in-Ok.blk _ _ c.in-Ok.ensures.answer c.in-Ok.ensures.unread
 
 pub returns-in-Err-clause-done : goal.returns-in-Err-clause-done
 returns-in-Err-clause-done g c = λ old is.

@@ -1,10 +1,11 @@
 -- A line refused, or with its text unprinted, ends the script as defined; a done one goes on, and
 -- after the last all is done. For `play`.
-use Rattle.std.proofs.Common.{◌∙◌, ◌+◌, arith}
+use Rattle.std.proofs.Common.{◌∙◌, ◌+◌, arith, inl, refl}
 use Rattle.blk_spec.specs.Answers.{device}
 use Rattle.blk_session.specs.Playing.{Seen, seen}
-use Rattle.blk_session.proofs.ScriptLines.{plays_next, plays_stop, plays_unwritten, plays_all}
-use Rattle.blk_session.proofs.LineTexts.{next_text, stopped_text}
+use Rattle.blk_session.proofs.ScriptLines.{plays_none, plays_next, plays_stop, plays_unwritten, plays_unread}
+use Rattle.blk_session.proofs.ScriptLines.{plays_all, asked_all}
+use Rattle.blk_session.proofs.LineTexts.{text_none, next_text, stopped_text}
 use Rattle.blk_session.proofs.playing.play.Goals as goal
 
 pub returns-in-Err-clause-played : goal.returns-in-Err-clause-played
@@ -37,6 +38,22 @@ returns-in-Err-clause-unwritten g c =
     plays_unwritten c.args.layout c.args.lines.now c.loop-i.i c.index-lines-i.result c.loop-i-test.true
     c.index-lines-i.is c.loop-i.blk a b c.loop-i.invariant.played c.in-Err.stop d c.in-Err.ensures.played
 
+pub returns-in-Err-clause-unread : goal.returns-in-Err-clause-unread
+returns-in-Err-clause-unread g c =
+    let a : Seen = seen (device (g.S.Load.holds c.args.store.now) (g.S.Load.writes c.args.store.now)
+    (g.S.Load.read_faults c.args.store.now))
+    (g.S.Load.faults c.args.store.now) (g.O.Sink.given c.args.out.now) (g.O.Sink.faults c.args.out.now) in
+    let b : Seen = seen (device (g.S.Load.holds c.loop-i.store) (g.S.Load.writes c.loop-i.store)
+    (g.S.Load.read_faults c.loop-i.store))
+    (g.S.Load.faults c.loop-i.store) (g.O.Sink.given c.loop-i.out) (g.O.Sink.faults c.loop-i.out) in
+    let d : Seen = seen (device (g.S.Load.holds c.play_line.new.store) (g.S.Load.writes c.play_line.new.store)
+    (g.S.Load.read_faults c.play_line.new.store))
+    (g.S.Load.faults c.play_line.new.store) (g.O.Sink.given c.play_line.new.out) (g.O.Sink.faults c.play_line.new.out)
+    in
+    plays_unread c.args.layout c.args.lines.now c.loop-i.i c.index-lines-i.result c.loop-i-test.true
+    c.index-lines-i.is c.loop-i.blk a b c.loop-i.invariant.played c.loop-i.invariant.unread c.in-Err.stop d
+    c.in-Err.ensures.played
+
 pub returns-in-Err-clause-kept_store : goal.returns-in-Err-clause-kept_store
 returns-in-Err-clause-kept_store g c = λ other. c.in-Err.ensures.kept_store other ∙ c.loop-i.invariant.kept_store
 
@@ -57,6 +74,22 @@ returns-in-Err-clause-put g c =
     in
     stopped_text c.args.layout c.loop-i.blk c.index-lines-i.result a b c.loop-i.invariant.put c.in-Err.stop
     (c.loop-i.i + 1) d c.in-Err.ensures.played
+
+pub loop-i-init : goal.loop-i-init
+loop-i-init g c =
+    let a : Seen = seen (device (g.S.Load.holds c.args.store.now) (g.S.Load.writes c.args.store.now)
+    (g.S.Load.read_faults c.args.store.now))
+    (g.S.Load.faults c.args.store.now) (g.O.Sink.given c.args.out.now) (g.O.Sink.faults c.args.out.now) in
+    record {
+      loaded = tt;
+      room = c.requires.room;
+      later = record { store = omega arith; sink = omega arith };
+      kept_store = refl;
+      kept_sink = refl;
+      unread = refl;
+      put = text_none (g.O.Sink.given c.args.out.now);
+      played = plays_none c.args.layout c.args.lines.now a;
+    }
 
 pub loop-i-preserved : goal.loop-i-preserved
 loop-i-preserved g c =
@@ -79,6 +112,7 @@ loop-i-preserved g c =
       };
       kept_store = c.in-Ok.ensures.kept_store ∙ c.loop-i.invariant.kept_store;
       kept_sink = c.in-Ok.ensures.kept_sink ∙ c.loop-i.invariant.kept_sink;
+      unread = c.in-Ok.ensures.played.done.unread ∙ c.loop-i.invariant.unread;
       put = next_text c.args.layout c.loop-i.blk c.index-lines-i.result a b c.loop-i.invariant.put c.in-Ok.next d
           c.in-Ok.ensures.played;
       played = plays_next c.args.layout c.args.lines.now c.loop-i.i c.index-lines-i.result c.loop-i-test.true
@@ -96,5 +130,19 @@ returns-clause-played g c =
     plays_all c.args.layout c.args.lines.now c.loop-i.i c.loop-i.blk a b (omega (arith, c.loop-i-test.false))
     c.loop-i.invariant.played
 
+pub returns-clause-asked : goal.returns-clause-asked
+returns-clause-asked g c =
+    let a : Seen = seen (device (g.S.Load.holds c.args.store.now) (g.S.Load.writes c.args.store.now)
+    (g.S.Load.read_faults c.args.store.now))
+    (g.S.Load.faults c.args.store.now) (g.O.Sink.given c.args.out.now) (g.O.Sink.faults c.args.out.now) in
+    let b : Seen = seen (device (g.S.Load.holds c.loop-i.store) (g.S.Load.writes c.loop-i.store)
+    (g.S.Load.read_faults c.loop-i.store))
+    (g.S.Load.faults c.loop-i.store) (g.O.Sink.given c.loop-i.out) (g.O.Sink.faults c.loop-i.out) in
+    asked_all c.args.layout c.args.lines.now c.loop-i.i c.loop-i.blk a b (omega (arith, c.loop-i-test.false))
+    c.loop-i.invariant.played
+
 pub returns-clause-unwritten : goal.returns-clause-unwritten
 returns-clause-unwritten g c = λ bytes told none. (c.loop-i.invariant.played bytes told).unwritten none
+
+pub returns-clause-unread : goal.returns-clause-unread
+returns-clause-unread g c = λ bytes told. inl c.loop-i.invariant.unread

@@ -8,8 +8,8 @@ use Rattle.blk_session.specs.Playing.{seen, Later}
 use Rattle.blk_session.proofs.ScriptLines.{PlaysSoFar}
 use Rattle.blk_session.proofs.playing.play.Given as goal
 
--- what is loaded has the layout, the store has its room, no fault was met, some text was put, and the first lines were
--- done
+-- what is loaded has the layout, the store has its room, no fault was met, no reading failed, some text was put, and
+-- the first lines were done
 abbrev pub invariant-loop-i : goal.invariant-loop-i
 invariant-loop-i g l =
     let a = seen (device (g.S.Load.holds l.initial.store) (g.S.Load.writes l.initial.store)
@@ -23,6 +23,7 @@ invariant-loop-i g l =
       later : Later a b;
       kept_store : b.store_faults ≡ a.store_faults;
       kept_sink : b.sink_faults ≡ a.sink_faults;
+      unread : b.store.read_faults ≡ a.store.read_faults;
       put : PutsText a.given b.given;
       played : PlaysSoFar l.layout l.lines l.i l.blk a b;
     }

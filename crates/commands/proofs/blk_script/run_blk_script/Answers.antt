@@ -1,13 +1,15 @@
 -- How each stage of a script on the block store ends it
-use Rattle.std.proofs.Common.{refl, arith, Err}
+use Rattle.std.proofs.Common.{refl, arith, Err, inl}
 use Rattle.image_file.proofs.Sizes.{size_load}
 use Rattle.command_line.proofs.Script.{load_caused, script_caused}
 use Rattle.command_line.proofs.BlkScript.{size_stopped, script_stopped, play_ended, played_caused, played_asks}
 use Rattle.command_line.proofs.BlkScript.{unless_line}
+use Rattle.blk_spec.specs.Answers.{Device, device}
 use Rattle.command_spec.specs.Ends.{end_of}
 use Rattle.script_spec.specs.declared.LineStop.TheVariants.{StoreFault, SinkFault}
 use Rattle.commands.proofs.WorkEnds.{count_same, count_since, none_asked}
 use Rattle.commands.proofs.Due.{no_text, ended_put}
+use Rattle.commands.proofs.Unread.{lines_unread}
 use Rattle.commands.proofs.blk_script.run_blk_script.Goals as goal
 
 pub returns-clause-work : goal.returns-clause-work
@@ -71,3 +73,23 @@ returns-in-Err-clause-put g c = no_text _
 
 pub returns-in-Err-read_lines-clause-put : goal.returns-in-Err-read_lines-clause-put
 returns-in-Err-read_lines-clause-put g c = no_text _
+
+pub returns-clause-unread : goal.returns-clause-unread
+returns-clause-unread g c =
+    let before : Device = device (g.M.Load.holds c.args.image.now) (g.M.Load.writes c.args.image.now)
+    (g.M.Load.read_faults c.args.image.now) in
+    let mid : Device = device (g.M.Load.holds c.check_size.new.image) (g.M.Load.writes c.check_size.new.image)
+    (g.M.Load.read_faults c.check_size.new.image) in
+    let now : Device = device (g.M.Load.holds c.play.new.store) (g.M.Load.writes c.play.new.store)
+    (g.M.Load.read_faults c.play.new.store) in
+    lines_unread c.args.layout c.in-Ok-read_lines.lines (g.S.Source.left c.args.script.now) _ before mid now
+    c.in-Ok.ensures.ok c.in-Ok-read_lines.ensures.read (c.in-Ok.ensures.same, c.in-Ok.ensures.unwritten)
+    c.in-Ok.ensures.read_counts (rw c.as_slice.ensures at c.play.ensures.unread)
+
+pub returns-in-Err-clause-unread : goal.returns-in-Err-clause-unread
+returns-in-Err-clause-unread g c = λ bytes script told here. inl (inl
+    (c.in-Err.ensures.same, c.in-Err.ensures.unwritten))
+
+pub returns-in-Err-read_lines-clause-unread : goal.returns-in-Err-read_lines-clause-unread
+returns-in-Err-read_lines-clause-unread g c = λ bytes script told here. inl (inl
+    (c.in-Ok.ensures.same, c.in-Ok.ensures.unwritten))

@@ -1,6 +1,6 @@
 -- `move_image` ends as wanted at each return: no memory, text not printed, image written whole, or
 -- a front of it. `MoveEnds` has the cases.
-use Rattle.std.proofs.Common.{[], ◌∙◌, ℕ, ap₂, refl, Err, inr}
+use Rattle.std.proofs.Common.{[], ◌∙◌, ℕ, ap₂, refl, Err, inl, inr}
 use Rattle.ramoops_layout.specs.Laid.{zones_of}
 use Rattle.prz_read.specs.Saving.{saved}
 use Rattle.script_spec.specs.Texts.{move_text}
@@ -52,3 +52,21 @@ returns-in-Err-clause-asked g c = λ left f. fails_first _ _ (Err c.in-Err.stop)
 
 pub returns-clause-asked : goal.returns-clause-asked
 returns-clause-asked g c = λ left f. inr (rw c.in-Ok.ensures.unwritten at c.in-Err-save.ensures.asked)
+
+pub returns-in-Err-clause-unread : goal.returns-in-Err-clause-unread
+returns-in-Err-clause-unread g c = inl (c.in-Err.ensures.same, c.in-Err.ensures.unwritten)
+
+pub returns-in-Err-move_text-clause-unread : goal.returns-in-Err-move_text-clause-unread
+returns-in-Err-move_text-clause-unread g c = inl (c.in-Ok.ensures.same, c.in-Ok.ensures.unwritten)
+
+pub returns-in-Err-moved-clause-unread : goal.returns-in-Err-moved-clause-unread
+returns-in-Err-moved-clause-unread g c = inl (c.in-Ok.ensures.same, c.in-Ok.ensures.unwritten)
+
+pub returns-in-Err-put-clause-unread : goal.returns-in-Err-put-clause-unread
+returns-in-Err-put-clause-unread g c = inl (c.in-Ok.ensures.same, c.in-Ok.ensures.unwritten)
+
+pub returns-in-Ok-save-clause-unread : goal.returns-in-Ok-save-clause-unread
+returns-in-Ok-save-clause-unread g c = inr (c.in-Ok-save.ensures.unread ∙ c.in-Ok.ensures.read_count)
+
+pub returns-clause-unread : goal.returns-clause-unread
+returns-clause-unread g c = inr (c.in-Err-save.ensures.unread ∙ c.in-Ok.ensures.read_count)

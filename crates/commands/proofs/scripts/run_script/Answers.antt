@@ -1,12 +1,14 @@
 -- How each stage of a script on an image ends it
-use Rattle.std.proofs.Common.{refl, ◌∙◌, arith, Ok, Err, inr}
+use Rattle.std.proofs.Common.{refl, ◌∙◌, arith, Ok, Err, inl, inr}
 use Rattle.command_spec.specs.Commands.{OfRam}
+use Rattle.command_spec.specs.declared.Stop.TheVariants.{ImageFault, SinkFault}
 use Rattle.command_line.proofs.Script.{load_stopped, script_stopped, load_caused, script_caused}
 use Rattle.commands.specs.Scripts.{session_plan, session_wants}
 use Rattle.commands.proofs.ScriptEnds.{scripted, work_done, work_stopped, lines_caused, lines_stopped, text_unput}
 use Rattle.commands.proofs.ScriptEnds.{image_saved, image_unsaved, lines_put, left_put, texts_put}
 use Rattle.commands.proofs.ImageFaults.{fails_first, fails_never}
 use Rattle.commands.proofs.Due.{plan_same}
+use Rattle.commands.proofs.Taking.{lines_take, command_takes, takes_silent}
 use Rattle.commands.proofs.scripts.run_script.Goals as goal
 
 pub returns-in-Err : goal.returns-in-Err
@@ -22,7 +24,9 @@ returns-in-Err g c = record {
       (rw c.mem.ensures at c.in-Err.ensures.err));
   asked = fails_first _ _ (Err c.in-Err.stop)
       (record { script = record { left = refl; source = refl }; given = refl; writes = c.in-Err.ensures.unwritten });
+  unread = inl (c.in-Err.ensures.same, c.in-Err.ensures.unwritten);
   put = plan_same (Ok (OfRam (session_plan c.args.session))) (Err c.in-Err.stop) _;
+  takes = takes_silent (Ok (OfRam (session_plan c.args.session))) _ _ (Err c.in-Err.stop) refl;
 }
 
 pub returns-in-Err-read_lines : goal.returns-in-Err-read_lines
@@ -44,7 +48,9 @@ returns-in-Err-read_lines g c = record {
   asked = fails_never _ _ (Err c.in-Err-read_lines.stop) _ _ 0 0
       (script_caused c.in-Err-read_lines.stop (g.S.Source.left c.args.script.now) _ _ _ 1 0 0 0
       c.in-Err-read_lines.ensures.read);
+  unread = inl (c.in-Ok.ensures.same, c.in-Ok.ensures.unwritten);
   put = plan_same (Ok (OfRam (session_plan c.args.session))) (Err c.in-Err-read_lines.stop) _;
+  takes = takes_silent (Ok (OfRam (session_plan c.args.session))) _ _ (Err c.in-Err-read_lines.stop) refl;
 }
 
 pub returns-in-Err-do_lines : goal.returns-in-Err-do_lines
@@ -68,10 +74,14 @@ returns-in-Err-do_lines g c = record {
       (lines_caused c.in-Err-do_lines.stop
       (session_wants c.args.session c.in-Ok.bytes.items (Ok c.in-Ok-read_lines.lines)) _ _ 0 0 1 0 _ _
       c.in-Err-do_lines.ensures.left);
+  unread = inl (c.in-Ok.ensures.same, c.in-Ok.ensures.unwritten);
   put = lines_put c.args.session c.in-Err-do_lines.stop
       (session_wants c.args.session c.in-Ok.bytes.items (Ok c.in-Ok-read_lines.lines)) _ _ _ _
       c.in-Err-do_lines.ensures.left
       c.in-Err-do_lines.ensures.silent;
+  takes = lines_take c.args.session _ _ c.in-Ok.bytes.items
+      (record { read = rw c.mem.ensures at c.in-Ok.ensures.ok.1 }) c.in-Ok-read_lines.lines
+      c.in-Ok-read_lines.ensures.read c.in-Err-do_lines.stop c.in-Err-do_lines.ensures.takes;
 }
 
 pub returns-in-Err-put_text : goal.returns-in-Err-put_text
@@ -91,8 +101,10 @@ returns-in-Err-put_text g c = record {
       c.in-Ok-do_lines.ensures.left c.in-Ok.ensures.same
       (rw c.deref.ensures.value at c.in-Err-put_text.ensures.bytes));
   asked = tt;
+  unread = inl (c.in-Ok.ensures.same, c.in-Ok.ensures.unwritten);
   put = (left_put c.args.session _ _ (texts_put _ _ _ c.in-Ok-do_lines.ensures.left _
       c.in-Err-put_text.ensures.bytes.bytes)).1;
+  takes = command_takes (session_plan c.args.session).command (session_plan c.args.session) _ _ (Err SinkFault) tt;
 }
 
 pub returns-in-Ok-save : goal.returns-in-Ok-save
@@ -112,8 +124,10 @@ returns-in-Ok-save g c = record {
       (rw c.deref.ensures.value at c.in-Ok-put_text.ensures.bytes)
       (rw (c.as_slice.ensures, c.in-Ok.ensures.same) at c.in-Ok-save.ensures.bytes));
   asked = tt;
+  unread = inr (c.in-Ok-save.ensures.unread ∙ c.in-Ok.ensures.read_counts);
   put = (left_put c.args.session _ _ (texts_put _ _ _ c.in-Ok-do_lines.ensures.left _
       c.in-Ok-put_text.ensures.bytes)).0;
+  takes = command_takes (session_plan c.args.session).command (session_plan c.args.session) _ _ (Ok tt) tt;
 }
 
 pub returns : goal.returns
@@ -134,6 +148,8 @@ returns g c = record {
       (rw c.deref.ensures.value at c.in-Ok-put_text.ensures.bytes)
       (rw (c.as_slice.ensures, c.in-Ok.ensures.same) at c.in-Err-save.ensures.bytes));
   asked = inr (rw c.in-Ok.ensures.unwritten at c.in-Err-save.ensures.asked);
+  unread = inr (c.in-Err-save.ensures.unread ∙ c.in-Ok.ensures.read_counts);
   put = (left_put c.args.session _ _ (texts_put _ _ _ c.in-Ok-do_lines.ensures.left _
       c.in-Ok-put_text.ensures.bytes)).2;
+  takes = command_takes (session_plan c.args.session).command (session_plan c.args.session) _ _ (Err ImageFault) tt;
 }

@@ -1,6 +1,6 @@
 -- Each arm of `do_command` has done its command's work, and printed no more than that. `WorkEnds`
 -- turns what an arm promises into it.
-use Rattle.std.proofs.Common.{refl, arith}
+use Rattle.std.proofs.Common.{refl, arith, inl, inr}
 use Rattle.command_spec.specs.Commands.{ShowLayout as ShowLayoutOf, Blank as BlankOf}
 use Rattle.command_line.specs.Words.{plan_for}
 use Rattle.command_line.specs.declared.words.RamCommand.TheVariants.{Run, ListRecords, Extract, Erase, ShowLayout}
@@ -8,6 +8,7 @@ use Rattle.command_line.specs.declared.words.RamCommand.TheVariants.{Blank, Make
 use Rattle.commands.proofs.WorkEnds.{arm_done, kept_same, count_same, layout_shown, blank_left}
 use Rattle.commands.proofs.Due.{arm_put, none_put}
 use Rattle.commands.proofs.ImageFaults.{arm_fails}
+use Rattle.commands.proofs.Taking.{arm_takes}
 use Rattle.commands.proofs.work.do_command.Goals as goal
 
 pub returns-in-Run-clause-work : goal.returns-in-Run-clause-work
@@ -184,4 +185,59 @@ returns-in-Salvage-clause-asked g c = arm_fails _ Salvage c.args.layout _ _ _ c.
 
 pub returns-in-Rescue-clause-asked : goal.returns-in-Rescue-clause-asked
 returns-in-Rescue-clause-asked g c = arm_fails _ (Rescue c.in-Rescue.at c.in-Rescue.name) c.args.layout _ _ _
+    c.in-Rescue.is tt
+
+pub returns-in-Run-clause-unread : goal.returns-in-Run-clause-unread
+returns-in-Run-clause-unread g c = c.run_script.ensures.unread
+
+pub returns-in-ListRecords-clause-unread : goal.returns-in-ListRecords-clause-unread
+returns-in-ListRecords-clause-unread g c = inl (c.list.ensures.same, c.list.ensures.unwritten)
+
+pub returns-in-Extract-clause-unread : goal.returns-in-Extract-clause-unread
+returns-in-Extract-clause-unread g c = inl (c.extract.ensures.same, c.extract.ensures.unwritten)
+
+pub returns-in-Erase-clause-unread : goal.returns-in-Erase-clause-unread
+returns-in-Erase-clause-unread g c = c.erase.ensures.unread
+
+pub returns-in-ShowLayout-clause-unread : goal.returns-in-ShowLayout-clause-unread
+returns-in-ShowLayout-clause-unread g c = inl (refl, refl)
+
+pub returns-in-Blank-clause-unread : goal.returns-in-Blank-clause-unread
+returns-in-Blank-clause-unread g c = inr c.blank.ensures.unread
+
+pub returns-in-Make-clause-unread : goal.returns-in-Make-clause-unread
+returns-in-Make-clause-unread g c = inr c.make.ensures.unread
+
+pub returns-in-Salvage-clause-unread : goal.returns-in-Salvage-clause-unread
+returns-in-Salvage-clause-unread g c = inl (c.salvage.ensures.same, c.salvage.ensures.unwritten)
+
+pub returns-in-Rescue-clause-unread : goal.returns-in-Rescue-clause-unread
+returns-in-Rescue-clause-unread g c = inl (c.rescue.ensures.same, c.rescue.ensures.unwritten)
+
+pub returns-in-Run-clause-takes : goal.returns-in-Run-clause-takes
+returns-in-Run-clause-takes g c = arm_takes _ Run c.args.layout _ _ _ c.in-Run.is c.run_script.ensures.takes
+
+pub returns-in-ListRecords-clause-takes : goal.returns-in-ListRecords-clause-takes
+returns-in-ListRecords-clause-takes g c = arm_takes _ ListRecords c.args.layout _ _ _ c.in-ListRecords.is tt
+
+pub returns-in-Extract-clause-takes : goal.returns-in-Extract-clause-takes
+returns-in-Extract-clause-takes g c = arm_takes _ (Extract c.in-Extract.name) c.args.layout _ _ _ c.in-Extract.is tt
+
+pub returns-in-Erase-clause-takes : goal.returns-in-Erase-clause-takes
+returns-in-Erase-clause-takes g c = arm_takes _ (Erase c.in-Erase.name) c.args.layout _ _ _ c.in-Erase.is tt
+
+pub returns-in-ShowLayout-clause-takes : goal.returns-in-ShowLayout-clause-takes
+returns-in-ShowLayout-clause-takes g c = arm_takes _ ShowLayout c.args.layout _ _ _ c.in-ShowLayout.is tt
+
+pub returns-in-Blank-clause-takes : goal.returns-in-Blank-clause-takes
+returns-in-Blank-clause-takes g c = arm_takes _ Blank c.args.layout _ _ _ c.in-Blank.is tt
+
+pub returns-in-Make-clause-takes : goal.returns-in-Make-clause-takes
+returns-in-Make-clause-takes g c = arm_takes _ (Make c.in-Make.n) c.args.layout _ _ _ c.in-Make.is tt
+
+pub returns-in-Salvage-clause-takes : goal.returns-in-Salvage-clause-takes
+returns-in-Salvage-clause-takes g c = arm_takes _ Salvage c.args.layout _ _ _ c.in-Salvage.is tt
+
+pub returns-in-Rescue-clause-takes : goal.returns-in-Rescue-clause-takes
+returns-in-Rescue-clause-takes g c = arm_takes _ (Rescue c.in-Rescue.at c.in-Rescue.name) c.args.layout _ _ _
     c.in-Rescue.is tt

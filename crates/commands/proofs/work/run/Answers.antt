@@ -9,6 +9,7 @@ use Rattle.commands.proofs.HeadlineReads.{run_reads}
 use Rattle.commands.proofs.RunEnds.{run_leaves}
 use Rattle.commands.proofs.Due.{last_line_put}
 use Rattle.commands.proofs.ImageFaults.{image_fails}
+use Rattle.commands.proofs.Taking.{plan_took}
 use Rattle.commands.proofs.work.run.Goals as goal
 
 pub returns-clause-runs : goal.returns-clause-runs
@@ -24,6 +25,7 @@ returns-clause-runs g c =
       writes = leaves.writes;
       image_fails = image_fails _ _ _ _ (record { left = refl; source = refl }) refl plan _
           c.do_work-end.ensures.asked c.finish.ensures;
+      takes = plan_took _ _ _ _ plan _ c.do_work-end.ensures.takes c.finish.ensures;
       faults = leaves.faults;
       answers = answers;
       complete = completes (texts c.args.words.now) _ _ _ answers;
@@ -32,3 +34,6 @@ returns-clause-runs g c =
           answers;
       last = last_line_put _ _ _ _ _ plan _ c.do_work-end.ensures.put c.finish.ensures;
     }
+
+pub returns-clause-unread : goal.returns-clause-unread
+returns-clause-unread g c = c.do_work-end.ensures.unread

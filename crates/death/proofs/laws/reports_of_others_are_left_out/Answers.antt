@@ -20,3 +20,15 @@ unfolding front_in front_of place_of landmark_end piece_len past_pieces line_of 
     last_opening telling_line stand_in cause_in open_below last_found cause_of entries is_passed to_blame first_where
     named_from last_two death_of trace_of
 returns-clause-task c = refl
+
+pub returns-clause-before : goal.returns-clause-before
+unfolding front_in front_of place_of landmark_end piece_len past_pieces line_of lines_at lines_from last_of
+    last_opening telling_line stand_in cause_in open_below last_found cause_of entries is_passed to_blame first_where
+    named_from last_two death_of trace_of
+returns-clause-before c = refl
+
+pub returns-clause-processors : goal.returns-clause-processors
+unfolding front_in front_of place_of landmark_end piece_len past_pieces line_of lines_at lines_from last_of
+    last_opening telling_line stand_in cause_in open_below last_found cause_of entries is_passed to_blame first_where
+    named_from last_two death_of trace_of
+returns-clause-processors c = refl

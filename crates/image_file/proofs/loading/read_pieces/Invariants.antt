@@ -9,6 +9,7 @@ invariant-pieces g l = (l.at ≤ l.size) × (vec_len l.bytes ≡ l.size)
     × IfSome (g.M.Load.holds l.initial.image) (λ bs. take l.at l.bytes.items ≡ take l.at bs)
     × (g.M.Load.faults l.image ≡ g.M.Load.faults l.initial.image)
     × (g.M.Load.writes l.image ≡ g.M.Load.writes l.initial.image)
+    × (g.M.Load.read_faults l.image ≡ g.M.Load.read_faults l.initial.image)
 
 abbrev pub decreases-pieces : goal.decreases-pieces
 decreases-pieces g l = l.size - l.at

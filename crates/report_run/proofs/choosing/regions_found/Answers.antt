@@ -15,7 +15,8 @@ returns-in_err-judge-clause-found g c =
     c.in_err-judge.field-0.0 =
     inr (are_untaken c.args.asked.now c.args.known.now c.args.path.now c.args.base _ _ _ c.in_ok-lines.field-0
     c.in_ok-lines.ensures.found c.as_bytes.result.now c.as_bytes.ensures.value c.tell.ensures c.deref.result.now
-    c.deref.ensures.value c.in_err-judge.field-0.0 c.in_err-judge.ensures) in
+    c.deref.ensures.value (g.M.Load.faults c.args.memory.now) (g.M.Load.faults c.searched.new.memory)
+    c.in_err-judge.field-0.0 c.in_ok-lines.ensures.no_fault c.in_err-judge.ensures) in
     search rules
 
 pub returns-clause-found : goal.returns-clause-found

@@ -1,4 +1,5 @@
 -- The report stops, or the lines on the layout follow it. For `sought_report`.
+use Rattle.std.proofs.Common.{◌∙◌}
 use Rattle.std.proofs.lemmas.Result.{err_from_is_err_and}
 use Rattle.report_run.specs.Messages.{seen}
 use Rattle.report_run.specs.Images.{IsNoSoughtReport}
@@ -20,7 +21,7 @@ returns-in_err-report-clause-reported g c =
     (seen (g.E.Sink.given c.sought_plan.new.messages.errors) (g.E.Sink.faults c.sought_plan.new.messages.errors)
     c.sought_plan.new.messages.is_lost)
     c.in_ok-told.ensures.looked c.in_ok-told.ensures.same _ _ _ _ _ (g.M.Load.faults c.sought_plan.new.image) _ _
-    c.in_ok-told.ensures.later c.in_err-report.ensures.reported in
+    c.in_ok-told.ensures.no_fault c.in_err-report.ensures.reported in
     let p = err_from_is_err_and c.from_residual-in_err-report.result
     c.from_residual-in_err-report.ensures.1 in
     rw (p.1, p.2) h
@@ -45,7 +46,8 @@ returns-in_err-tell_layout-clause-reported g c =
     (g.O.Sink.faults c.report_by.new.out) (g.O.Sink.faults c.tell_layout.new.out) c.in_ok-report.ensures.faultless
     (seen (g.E.Sink.given c.tell_layout.new.messages.errors) (g.E.Sink.faults c.tell_layout.new.messages.errors)
     c.tell_layout.new.messages.is_lost)
-    _ _ c.in_err-tell_layout.field-0.0 c.in_err-tell_layout.ensures.told in
+    (g.M.Load.faults c.args.image.now) (g.M.Load.faults c.report_by.new.image) c.in_err-tell_layout.field-0.0
+    (c.in_ok-report.ensures.no_fault ∙ c.in_ok-told.ensures.no_fault) c.in_err-tell_layout.ensures.told in
     let p = err_from_is_err_and c.from_residual-in_err-tell_layout.result
     c.from_residual-in_err-tell_layout.ensures.1 in
     rw (p.1, p.2) h

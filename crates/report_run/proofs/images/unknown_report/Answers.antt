@@ -25,4 +25,4 @@ returns-in-Ok-Some-clause-reported g c =
     c.report_log.result
     (subst (λ (o : Option HeldLog). IsLooked c.args.asked.now.logs (g.M.Load.holds c.args.image.now) o)
     c.in-Ok-Some.field-0-is c.in-Ok-Some.ensures.looked)
-    c.report_log.ensures.reported
+    c.in-Ok-Some.ensures.no_fault c.report_log.ensures.reported

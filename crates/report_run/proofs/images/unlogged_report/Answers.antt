@@ -23,4 +23,4 @@ returns-in-Ok-Some-clause-reported g c =
     c.report_storage.result
     (subst (λ (o : Option HeldStorage). IsLookedAt c.args.asked.now.storages (g.M.Load.holds c.args.image.now) o)
     c.in-Ok-Some.field-0-is c.in-Ok-Some.ensures.looked)
-    c.report_storage.ensures.reported
+    c.in-Ok-Some.ensures.no_fault c.report_storage.ensures.reported

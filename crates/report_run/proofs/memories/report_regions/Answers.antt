@@ -1,5 +1,5 @@
 -- One region after another. For `report_regions`.
-use Rattle.std.proofs.Common.{◌∙◌, arith, rules, sym}
+use Rattle.std.proofs.Common.{◌∙◌, rules, sym}
 use Rattle.std.proofs.lemmas.Option.{get_or_from_slice_get}
 use Rattle.report_run.specs.Messages.{seen}
 use Rattle.report_run.specs.States.{folder, state}
@@ -50,7 +50,7 @@ returns-in_err-report_named-clause-done g c =
     c.loop-i-test.true
     (sym (get_or_from_slice_get c.args.regions.now c.loop-i.i c.nth_region-region.result c.nth_region-region.result
     c.nth_region-region.ensures))
-    c.loop-i.invariant.1 (omega (arith, c.loop-i.invariant.2)) c.in_err-report_named.ensures.done
+    c.loop-i.invariant.1 c.loop-i.invariant.2 c.in_err-report_named.ensures.done
     c.loop-i.invariant.0 in
     search rules
 

@@ -12,4 +12,5 @@ returns-clause-reported g c =
     c.args.messages.now.is_lost)
     (seen (g.E.Sink.given c.tell_part.new.self.errors) (g.E.Sink.faults c.tell_part.new.self.errors)
     c.tell_part.new.self.is_lost)
-    c.in_ok-log.field-0 c.in_ok-log.ensures.held c.tell_part.ensures c.report_log.result c.report_log.ensures.reported
+    c.in_ok-log.field-0 c.in_ok-log.ensures.held c.tell_part.ensures c.report_log.result
+    c.in_ok-log.ensures.no_fault c.report_log.ensures.reported

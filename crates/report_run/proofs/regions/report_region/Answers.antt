@@ -44,6 +44,7 @@ returns-in_err-tell_region-clause-done g c =
     inr (inl (record {
       told = c.in_ok-told.told;
       is_told = c.in_ok-told.ensures;
+      no_read_fault = c.in_ok-report_place.ensures.no_fault;
       between = g.O.Sink.given c.report_place.new.out;
       done = c.in_ok-report_place.ensures.done;
       cause = subst (λ (p : ℕ). IsNotTold c.args.asked.now.format (string_bytes c.in_ok-told.told.lines)

@@ -7,10 +7,12 @@ use Rattle.storage_report.proofs.Holding.{undivided_at, divided_at}
 use Rattle.storage_report.proofs.loading.divided_storage.Goals as goal
 
 pub returns-in-Some-clause-divided : goal.returns-in-Some-clause-divided
-returns-in-Some-clause-divided g c =
-    undivided_at (g.M.Load.holds c.args.image.now) c.args.sizes.now c.in_ok-total.total c.sized-sizes.result
-    c.in-Some.fault c.sized-sizes.ensures c.in_ok-total.ensures.inside c.in_ok-total.ensures.front
-    (sym c.size_fault.ensures ∙ c.in-Some.is)
+returns-in-Some-clause-divided g c = (
+  c.in_ok-total.ensures.done,
+  undivided_at (g.M.Load.holds c.args.image.now) c.args.sizes.now c.in_ok-total.total c.sized-sizes.result
+      c.in-Some.fault c.sized-sizes.ensures c.in_ok-total.ensures.inside c.in_ok-total.ensures.front
+      (sym c.size_fault.ensures ∙ c.in-Some.is),
+)
 
 pub returns-clause-divided : goal.returns-clause-divided
 returns-clause-divided g c =

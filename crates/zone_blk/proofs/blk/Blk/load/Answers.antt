@@ -23,6 +23,9 @@ returns-in-Ok-clear_rings-clause-answer g c = (
       ∙ ap (further _) c.in-Ok.ensures.unwritten,
 )
 
+pub returns-in-Ok-clear_rings-clause-unread : goal.returns-in-Ok-clear_rings-clause-unread
+returns-in-Ok-clear_rings-clause-unread g c = c.in-Ok-clear_rings.ensures.ends.unread ∙ c.in-Ok.ensures.ends.1
+
 pub returns-in-Err-clear_rings-clause-answer : goal.returns-in-Err-clear_rings-clause-answer
 returns-in-Err-clear_rings-clause-answer g c =
     let a : Device = device (g.M.Load.holds c.args.store.now) (g.M.Load.writes c.args.store.now)
