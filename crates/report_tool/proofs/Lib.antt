@@ -4,5 +4,4 @@ mod BetterWords
 mod PlanZones
 mod Splits
 mod Tags
-mod TreeHeads
 mod VersionWords

@@ -38,7 +38,7 @@ returns-then-is_own c =
     (c.is_own.ensures ∙ ap (λ m. is_own c.args.text.now c.args.stuck m c.in-Some.line) c.kind_by-mark.ensures)
     (ap (λ b. cond b (Some c.in-Some.line) None) (sym c.if-is_own.true)))
 
-pub returns-in_default : goal.returns-in_default
-returns-in_default c =
+pub returns : goal.returns
+returns c =
     head_none c.args.text.now (λ line. is_own c.args.text.now c.args.stuck (kind c.args.text.now line) line)
     (ends c.is_of_oops-is_oops.result) c.lines.at None _ c.lines.invariant c.in_default.ensures.none

@@ -12,20 +12,20 @@ use Rattle.death.proofs.reports.heads.Goals as goal
 pub lines-init : goal.lines-init
 lines-init c = (
   report_by c.args.text.now (is_a c.args.text.now Processor)
-      c.args.telling c.kind_by-head.result c.stuck_of-stuck.result c.begin_of.result c.kind_by-head.ensures
-      c.stuck_of-stuck.ensures c.begin_of.ensures,
+      c.args.telling c.kind_by-head.result c.stuck_of-stuck.result c.begin_of-at.result c.kind_by-head.ensures
+      c.stuck_of-stuck.ensures c.begin_of-at.ensures,
   report_by c.args.text.now (is_a c.args.text.now Place)
-      c.args.telling c.kind_by-head.result c.stuck_of-stuck.result c.begin_of.result c.kind_by-head.ensures
-      c.stuck_of-stuck.ensures c.begin_of.ensures,
+      c.args.telling c.kind_by-head.result c.stuck_of-stuck.result c.begin_of-at.result c.kind_by-head.ensures
+      c.stuck_of-stuck.ensures c.begin_of-at.ensures,
   report_by c.args.text.now (is_a c.args.text.now Link)
-      c.args.telling c.kind_by-head.result c.stuck_of-stuck.result c.begin_of.result c.kind_by-head.ensures
-      c.stuck_of-stuck.ensures c.begin_of.ensures,
+      c.args.telling c.kind_by-head.result c.stuck_of-stuck.result c.begin_of-at.result c.kind_by-head.ensures
+      c.stuck_of-stuck.ensures c.begin_of-at.ensures,
   report_by c.args.text.now (λ line. is_entry (said c.args.text.now line))
-      c.args.telling c.kind_by-head.result c.stuck_of-stuck.result c.begin_of.result c.kind_by-head.ensures
-      c.stuck_of-stuck.ensures c.begin_of.ensures,
+      c.args.telling c.kind_by-head.result c.stuck_of-stuck.result c.begin_of-at.result c.kind_by-head.ensures
+      c.stuck_of-stuck.ensures c.begin_of-at.ensures,
   report_by c.args.text.now (is_a c.args.text.now Own)
-      c.args.telling c.kind_by-head.result c.stuck_of-stuck.result c.begin_of.result c.kind_by-head.ensures
-      c.stuck_of-stuck.ensures c.begin_of.ensures,
+      c.args.telling c.kind_by-head.result c.stuck_of-stuck.result c.begin_of-at.result c.kind_by-head.ensures
+      c.stuck_of-stuck.ensures c.begin_of-at.ensures,
 )
 
 pub lines-preserved : goal.lines-preserved
