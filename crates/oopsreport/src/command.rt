@@ -170,7 +170,9 @@ fn with_text<'a>(alloc: Global, command: Command<'a>) -> Result<Command<'a>, All
         .value_name("WHEN")
         .value_parser(["auto", "always", "never"].as_slice())
         .default_value("auto")
-        .help("Whether a text has colours; auto is on a terminal, unless NO_COLOR is set");
+        .help(
+            "Whether a text has colours; auto is on a terminal, unless NO_COLOR is set or TERM is dumb",
+        );
     command.arg(color)
 }
 

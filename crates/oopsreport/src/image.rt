@@ -119,8 +119,23 @@ fn read_on<F: Read>(
     Ok(())
 }
 
-// What a reader stands for: of a gzip file all of its text, else its first bytes, at most so many.
-fn front_of<F: Read>(alloc: Global, reader: &mut F, most: usize) -> Result<Vec<u8>> {
+// The most bytes that are read of an image.
+fn most_of(wanted: Wanted) -> u32 {
+    match wanted {
+        Wanted::Front(most) | Wanted::UpTo(most) => most,
+        Wanted::Whole => u32::MAX,
+    }
+}
+
+fn has_more<F: Read>(alloc: Global, reader: &mut F) -> io::Result<bool> {
+    let mut next = Vec::new(alloc);
+    read_on(alloc, reader, &mut next, 1)?;
+    Ok(!next.is_empty())
+}
+
+// What a reader stands for: of a gzip file all of its text, else as much of it as is wanted.
+fn front_of<F: Read>(alloc: Global, reader: &mut F, wanted: Wanted) -> Result<Vec<u8>> {
+    let most = most_of(wanted) as usize;
     let mut front = Vec::new(alloc);
     read_on(alloc, reader, &mut front, FRONT.min(most))?;
     if packing_of(&front)? {
@@ -128,15 +143,21 @@ fn front_of<F: Read>(alloc: Global, reader: &mut F, most: usize) -> Result<Vec<u
         return unpacked(alloc, &front);
     }
     read_on(alloc, reader, &mut front, most)?;
+    if let Wanted::UpTo(most) = wanted
+        && front.len() >= most as usize
+        && has_more(alloc, reader)?
+    {
+        bail!("it has more than {most} bytes: give it as a file, or say its layout");
+    }
     Ok(front)
 }
 
 // The device at a path. One that tells its end is read at places.
-fn open_device<R: Runtime>(rt: &R, alloc: Global, path: &str, most: u32) -> Result<Kind<R>> {
+fn open_device<R: Runtime>(rt: &R, alloc: Global, path: &str, wanted: Wanted) -> Result<Kind<R>> {
     let mut device = fs::File::open(rt, path)?;
     match device.seek(SeekFrom::End(0)) {
-        Ok(size) if size > 0 => Ok(Kind::Device(device, size.min(u64::from(most)))),
-        Ok(_) | Err(_) => Ok(Kind::Front(front_of(alloc, &mut device, most as usize)?)),
+        Ok(size) if size > 0 => Ok(Kind::Device(device, size.min(u64::from(most_of(wanted))))),
+        Ok(_) | Err(_) => Ok(Kind::Front(front_of(alloc, &mut device, wanted)?)),
     }
 }
 
@@ -146,7 +167,7 @@ fn open_file<R: Runtime>(
     alloc: Global,
     path: &str,
     len: u64,
-    most: u32,
+    wanted: Wanted,
 ) -> Result<Kind<R>> {
     let mut reader = fs::File::open(rt, path)?;
     let mut file = FileLoad::new(rt, alloc, path)?;
@@ -154,7 +175,7 @@ fn open_file<R: Runtime>(
         bail!("it could not be read");
     };
     if is_packed || len == 0 {
-        return Ok(Kind::Front(front_of(alloc, &mut reader, most as usize)?));
+        return Ok(Kind::Front(front_of(alloc, &mut reader, wanted)?));
     }
     Ok(Kind::File(file))
 }
@@ -176,10 +197,10 @@ fn open<R: Runtime, S: Read>(
     alloc: Global,
     input: &mut S,
     path: &str,
-    most: u32,
+    wanted: Wanted,
 ) -> Result<Kind<R>> {
     if path == "-" {
-        return Ok(Kind::Front(front_of(alloc, input, most as usize)?));
+        return Ok(Kind::Front(front_of(alloc, input, wanted)?));
     }
     let metadata = fs::metadata(rt, path)?;
     if metadata.is_dir() {
@@ -188,9 +209,9 @@ fn open<R: Runtime, S: Read>(
         bail!("it is a folder");
     }
     if metadata.is_file() {
-        return open_file(rt, alloc, path, metadata.len(), most);
+        return open_file(rt, alloc, path, metadata.len(), wanted);
     }
-    open_device(rt, alloc, path, most)
+    open_device(rt, alloc, path, wanted)
 }
 
 // A file with a copy of a memory.
@@ -269,8 +290,8 @@ impl<R: Runtime, S: Read> Images for System<R, S> {
 
     fn open(&mut self, path: &str, wanted: Wanted) -> Result<Image<R>, Failure> {
         let opened = match wanted {
-            Wanted::Front(most) => open(&self.rt, self.alloc, &mut self.input, path, most),
             Wanted::Whole => open_whole(&self.rt, self.alloc, path, self.is_placed),
+            _ => open(&self.rt, self.alloc, &mut self.input, path, wanted),
         };
         match opened {
             Ok(kind) => Ok(Image {

@@ -340,15 +340,25 @@ pub fn format(matches: &ArgMatches<'_>) -> Format {
     }
 }
 
-// Whether a text has colours: as the words say, else on a terminal, unless NO_COLOR is set (no-color.org).
+// Whether a terminal is to show no colours: NO_COLOR is set (no-color.org), or it knows none.
+fn is_plain<R: Runtime>(rt: &R) -> bool {
+    let is_unwanted = match env::var(rt, "NO_COLOR") {
+        Ok(value) => !value.is_empty(),
+        Err(_) => false,
+    };
+    let is_dumb = match env::var(rt, "TERM") {
+        Ok(value) => value.as_str() == "dumb",
+        Err(_) => false,
+    };
+    is_unwanted || is_dumb
+}
+
+// Whether a text has colours: as the words say, else on a terminal that is not plain.
 fn is_coloured<R: Runtime>(rt: &R, matches: &ArgMatches<'_>, is_terminal: bool) -> bool {
     match matches.get_str("color") {
         Some("always") => true,
         Some("never") => false,
-        _ => match env::var(rt, "NO_COLOR") {
-            Ok(value) => is_terminal && value.is_empty(),
-            Err(_) => is_terminal,
-        },
+        _ => is_terminal && !is_plain(rt),
     }
 }
 

@@ -7,9 +7,10 @@ mod folders;
 mod image;
 mod layout;
 mod memory;
+mod names;
 mod unpacking;
 
-use anyhow::Result;
+use anyhow::{Result, bail};
 use clap::ArgMatches;
 use clap::error::ErrorKind;
 use command::command;
@@ -19,9 +20,10 @@ use folders::Tree;
 use image::System;
 use layout::{Asked, NoPlan, Terminal, asked_by, format};
 use memory::Progress;
+use names::named;
 use outside::{Sink, WriterSink};
 use report_colours::ColourSink;
-use report_run::{Messages, format_for, is_counted, status_of};
+use report_run::{Messages, NamedFile, format_for, is_counted, status_of};
 use report_tool::Format;
 use std::alloc::{AllocError, Global};
 use std::io::{IsTerminal, Read};
@@ -36,7 +38,7 @@ const NOT_DONE: u8 = 1;
 const WRONG_WORDS: u8 = 2;
 
 // All files, one after another, and the status.
-fn all_paths<R: Runtime, S: Read, O: Sink, E: Sink>(
+fn all_shown<R: Runtime, S: Read, O: Sink, E: Sink>(
     rt: &R,
     messages: &mut Messages<E>,
     alloc: Global,
@@ -45,12 +47,12 @@ fn all_paths<R: Runtime, S: Read, O: Sink, E: Sink>(
     is_watched: bool,
     records: &mut Named<R>,
     out: &mut O,
-    paths: &[String],
+    files: &[NamedFile],
 ) -> Result<u8> {
-    let all = paths.len();
+    let all = files.len();
     let mut watch = Progress::new(rt.clone()?, is_watched);
     let failed = report_run::run(
-        alloc, asked, paths, images, &mut watch, out, messages, records,
+        alloc, asked, files, images, &mut watch, out, messages, records,
     );
     messages.tell_end(is_counted(asked, all), all);
     Ok(status_of(failed, messages.is_lost))
@@ -64,12 +66,12 @@ fn all_files<R: Runtime, S: Read, E: Sink>(
     images: &mut System<R, S>,
     asked: &Asked,
     records: &mut Named<R>,
-    paths: &[String],
+    files: &[NamedFile],
 ) -> Result<u8> {
     let mut out = WriterSink::new(io::writer(rt));
     if asked.is_coloured {
         let mut out = ColourSink::new(out);
-        all_paths(
+        all_shown(
             rt,
             messages,
             alloc,
@@ -78,10 +80,10 @@ fn all_files<R: Runtime, S: Read, E: Sink>(
             asked.is_watched,
             records,
             &mut out,
-            paths,
+            files,
         )
     } else {
-        all_paths(
+        all_shown(
             rt,
             messages,
             alloc,
@@ -90,7 +92,7 @@ fn all_files<R: Runtime, S: Read, E: Sink>(
             asked.is_watched,
             records,
             &mut out,
-            paths,
+            files,
         )
     }
 }
@@ -102,6 +104,47 @@ fn paths_of(alloc: Global, matches: &ArgMatches<'_>) -> Result<Vec<String>, Allo
         paths.push(String::from_str(alloc, path)?)?;
     }
     Ok(paths)
+}
+
+// Why these files can't be shown together.
+fn misfit(paths: &[String], format: Format) -> Option<&'static str> {
+    if format == Format::Html && paths.len() > 1 {
+        Some("a page shows one image")
+    } else if paths.iter().filter(|path| path.as_str() == "-").count() > 1 {
+        Some("standard input is read once")
+    } else {
+        None
+    }
+}
+
+// Reports the files that stand at these paths.
+fn report_all<R: Runtime, S: Read + Drop, E: Sink>(
+    rt: &R,
+    messages: &mut Messages<E>,
+    alloc: Global,
+    input: S,
+    asked: &mut Asked,
+    paths: &[String],
+) -> Result<u8> {
+    if paths.is_empty() {
+        bail!("no file stands there");
+    }
+    let is_placed = match asked.images.memory {
+        Some(memory) => memory.place.is_some(),
+        None => false,
+    };
+    let files = named(alloc, paths, asked.images.format)?;
+    let mut images = System::new(rt.clone()?, alloc, input, is_placed);
+    let mut records = Named::new(rt.clone()?, alloc, asked.folder.take());
+    all_files(
+        rt,
+        messages,
+        alloc,
+        &mut images,
+        asked,
+        &mut records,
+        &files,
+    )
 }
 
 // Reads the words, and does what they ask.
@@ -122,31 +165,17 @@ fn run<R: Runtime, S: Read + Drop, E: Sink>(
         }
     };
     let mut tree = Tree::new(rt.clone()?, alloc);
-    let named = paths_of(alloc, &matches)?;
-    let files = files_of(alloc, &named, matches.get_flag("recursive"), &mut tree)?;
-    if files.paths.len() > 1 && format(&matches) == Format::Html {
-        let error = command(alloc)?.error(ErrorKind::TooManyValues, "a page shows one image")?;
+    let listed = paths_of(alloc, &matches)?;
+    let files = files_of(alloc, &listed, matches.get_flag("recursive"), &mut tree)?;
+    if let Some(why) = misfit(&files.paths, format(&matches)) {
+        let error = command(alloc)?.error(ErrorKind::TooManyValues, why)?;
         error.print(rt)?;
         return Ok(WRONG_WORDS);
     }
     match asked_by(rt, alloc, &matches, terminal) {
         Ok(mut asked) => {
             asked.images.format = format_for(files.has_folder, asked.images.format);
-            let is_placed = match asked.images.memory {
-                Some(memory) => memory.place.is_some(),
-                None => false,
-            };
-            let mut images = System::new(rt.clone()?, alloc, input, is_placed);
-            let mut records = Named::new(rt.clone()?, alloc, asked.folder.take());
-            all_files(
-                rt,
-                messages,
-                alloc,
-                &mut images,
-                &asked,
-                &mut records,
-                &files.paths,
-            )
+            report_all(rt, messages, alloc, input, &mut asked, &files.paths)
         }
         Err(NoPlan::Memory) => Err(AllocError.into()),
         Err(NoPlan::Words(e)) => {

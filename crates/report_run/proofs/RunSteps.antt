@@ -1,64 +1,75 @@
--- The images, one after another. For the loop of `run`.
+-- The files, one after another. For the loop of `run`.
 use Rattle.std.proofs.Common.{◌≡◌, ℕ, suc, ◌+◌, ◌<◌, ◌≤◌, List, [], ◌∷◌, length, drop, Option, Bool, refl, sym, ap, ◌∙◌}
-use Rattle.std.proofs.Common.{subst, drop-cons, get_or, add-one, string_bytes, false}
+use Rattle.std.proofs.Common.{subst, drop-cons, get_or, add-one, string_bytes, true, false, inl, inr}
 use Rattle.std.proofs.lemmas.List.{drop_all}
-use Rattle.std.specs.declared.string.String.{String}
-use Rattle.std.specs.declared.alloc.Global.{Global}
 use Rattle.report_run.specs.declared.plans.Asked.{Asked}
 use Rattle.report_run.specs.declared.plans.Wanted.{Wanted}
+use Rattle.report_run.specs.declared.running.FileEnd.{FileEnd}
+use Rattle.report_run.specs.declared.running.NamedFile.{NamedFile}
 use Rattle.report_run.specs.States.{State, Reads}
-use Rattle.report_run.specs.Runs.{wanted, IsStep, AreSteps}
+use Rattle.report_run.specs.Runs.{wanted, IsStep, AreSteps, ends_run, has_failed}
 
-module _ (asked : Asked) (content : List ℕ → Wanted → Option (List ℕ)) (paths : List (String Global)) (first : Reads)
+module _ (asked : Asked) (content : List ℕ → Wanted → Option (List ℕ)) (files : List NamedFile) (first : Reads)
     (start : State) where
-  -- what the images from a place on do, those before have led to
+  -- what the files from a place on do, those before have led to
   abbrev pub Continues : ℕ → Reads → State → Bool → Type 0
   Continues i r s failed =
       (last : Reads) (after : State) (now : Bool)
-      → AreSteps asked content (length paths) i (drop i paths) r s failed last after now
-      → AreSteps asked content (length paths) 0 paths first start false last after now
+      → AreSteps asked content (length files) i (drop i files) r s failed last after now
+      → AreSteps asked content (length files) 0 files first start false last after now
 
   pub none_run : Continues 0 first start false
   none_run = λ last after now steps. steps
 
-  next : (i : ℕ) (path : String Global) (r q : Reads) (s m : State) (was failed : Bool) → i < length paths
-      → path ≡ get_or paths i path
-      → IsStep asked i (length paths) (string_bytes path) (content (string_bytes path) (wanted asked.memory asked.layouts))
-      r q s m was failed → Continues i r s was → Continues (i + 1) q m failed
+  -- file i, as the loop has it
+  abbrev pub IsFile : ℕ → NamedFile → (List ℕ → Wanted → Option (List ℕ)) → Reads → Reads → State → State → FileEnd
+      → Type 0
+  IsFile i file held r q s m end =
+      IsStep asked i (length files) (string_bytes file.name)
+      (held (string_bytes file.path) (wanted asked.memory asked.layouts)) r q s m end
+
+  -- the files from i on begin with it
+  from : (i : ℕ) (file : NamedFile) (r : Reads) (s : State) (was : Bool) → i < length files → file ≡ get_or files i file
+      → Continues i r s was → (last : Reads) (after : State) (now : Bool)
+      → AreSteps asked content (length files) i (file ∷ drop (i + 1) files) r s was last after now
+      → AreSteps asked content (length files) 0 files first start false last after now
+  from i file r s was inside is_file so_far last after now steps =
+      so_far last after now
+      (subst (λ (fs : List NamedFile). AreSteps asked content (length files) i fs r s was last after now)
+      (sym (drop-cons files i file inside ∙ ap (λ f. f ∷ drop (suc i) files) (sym is_file)
+      ∙ ap (λ k. file ∷ drop k files) (sym (add-one i)))) steps)
+
+  known : (i : ℕ) (file : NamedFile) (held : List ℕ → Wanted → Option (List ℕ)) (r q : Reads) (s m : State)
+      (end : FileEnd) → held ≡ content → IsFile i file held r q s m end → IsFile i file content r q s m end
+  known i file held r q s m end same step =
+      subst (λ (f : List ℕ → Wanted → Option (List ℕ)). IsFile i file f r q s m end) same step
+
+  pub one_run : (i : ℕ) (file : NamedFile) (held : List ℕ → Wanted → Option (List ℕ)) (r q : Reads) (s m : State)
+      (was : Bool) (end : FileEnd) → i < length files → file ≡ get_or files i file → held ≡ content
+      → IsFile i file held r q s m end → ends_run end ≡ false → Continues i r s was
+      → Continues (i + 1) q m (has_failed end was)
   unfolding AreSteps
-  next i path r q s m was failed inside is_path step so_far =
-      λ last after now steps. so_far last after now
-      (subst (λ (ps : List (String Global)). AreSteps asked content (length paths) i ps r s was last after now)
-      (sym (drop-cons paths i path inside ∙ ap (λ p. p ∷ drop (suc i) paths) (sym is_path)
-      ∙ ap (λ k. path ∷ drop k paths) (sym (add-one i))))
-      (joined last after now steps))
-    where
-      joined : (last : Reads) (after : State) (now : Bool)
-          → AreSteps asked content (length paths) (i + 1) (drop (i + 1) paths) q m failed last after now
-          → AreSteps asked content (length paths) i (path ∷ drop (i + 1) paths) r s was last after now
-      joined last after now steps = (q, m, failed, step, steps)
+  one_run i file held r q s m was end inside is_file same step goes so_far =
+      λ last after now steps. from i file r s was inside is_file so_far last after now
+      (q, m, end, known i file held r q s m end same step, inr (goes, steps))
 
-  pub one_run : (i : ℕ) (path : String Global) (text : List ℕ) (held : List ℕ → Wanted → Option (List ℕ)) (r q : Reads)
-      (s m : State) (was failed : Bool) → i < length paths → path ≡ get_or paths i path → text ≡ string_bytes path
-      → held ≡ content
-      → IsStep asked i (length paths) text (held text (wanted asked.memory asked.layouts)) r q s m was failed
-      → Continues i r s was → Continues (i + 1) q m failed
-  one_run i path text held r q s m was failed inside is_path is_text same step so_far =
-      next i path r q s m was failed inside is_path
-      (subst (λ (t : List ℕ). IsStep asked i (length paths) t (content t (wanted asked.memory asked.layouts)) r q s m was
-      failed)
-      is_text
-      (subst (λ (f : List ℕ → Wanted → Option (List ℕ)). IsStep asked i (length paths) text
-      (f text (wanted asked.memory asked.layouts)) r q s m was failed) same step))
-      so_far
+  -- the file that ended the run
+  pub cut_run : (i : ℕ) (file : NamedFile) (held : List ℕ → Wanted → Option (List ℕ)) (r q : Reads) (s m : State)
+      (was : Bool) (end : FileEnd) → i < length files → file ≡ get_or files i file → held ≡ content
+      → IsFile i file held r q s m end → ends_run end ≡ true → Continues i r s was
+      → AreSteps asked content (length files) 0 files first start false q m true
+  unfolding AreSteps
+  cut_run i file held r q s m was end inside is_file same step ends so_far =
+      from i file r s was inside is_file so_far q m true
+      (q, m, end, known i file held r q s m end same step, inl (ends, refl, refl, refl))
 
-  pub all_run : (i : ℕ) (r : Reads) (s : State) (failed : Bool) → length paths ≤ i → Continues i r s failed
-      → AreSteps asked content (length paths) 0 paths first start false r s failed
+  pub all_run : (i : ℕ) (r : Reads) (s : State) (failed : Bool) → length files ≤ i → Continues i r s failed
+      → AreSteps asked content (length files) 0 files first start false r s failed
   unfolding AreSteps
   all_run i r s failed behind so_far =
-      so_far r s failed (subst (λ (ps : List (String Global)). AreSteps asked content (length paths) i ps r s failed r s
+      so_far r s failed (subst (λ (fs : List NamedFile). AreSteps asked content (length files) i fs r s failed r s
       failed)
-      (sym (drop_all i paths behind)) stays)
+      (sym (drop_all i files behind)) stays)
     where
-      stays : AreSteps asked content (length paths) i [] r s failed r s failed
+      stays : AreSteps asked content (length files) i [] r s failed r s failed
       stays = (refl, refl, refl)

@@ -1,21 +1,18 @@
--- One of several images, behind the count of those before. `report_path` cites it.
+-- One of several files, behind the count of those before. `report_file` cites it.
 use Rattle.std.proofs.Common.{◌≡◌, ℕ, ◌≤◌, List, Option, Bool, subst}
-use Rattle.std.specs.Prelude.{not, ◌||◌}
 use Rattle.report_run.specs.declared.plans.Asked.{Asked}
+use Rattle.report_run.specs.declared.running.FileEnd.{FileEnd}
 use Rattle.report_run.specs.Messages.{Seen, IsCounted}
 use Rattle.report_run.specs.States.{State, Reads}
 use Rattle.report_run.specs.Runs.{is_counted, IsPath, IsStep}
 
 pub step : (asked : Asked) (i all : ℕ) (path : List ℕ) (holds : Option (List ℕ)) (r q : Reads) (a b : State)
-    (between : Seen) (was now done is_shown : Bool) → is_shown ≡ is_counted asked all
+    (between : Seen) (end : FileEnd) (is_shown : Bool) → is_shown ≡ is_counted asked all
     → IsCounted is_shown i all a.errors between → r.unread ≤ q.unread
-    → IsPath done asked path holds r q (record a { errors = between }) b → now ≡ (was || not done)
-    → IsStep asked i all path holds r q a b was now
-step asked i all path holds r q a b between was now done is_shown e counted later is_path failed = record {
+    → IsPath end asked path holds r q (record a { errors = between }) b → IsStep asked i all path holds r q a b end
+step asked i all path holds r q a b between end is_shown e counted later is_path = record {
   later = later;
   between = between;
   counted = subst (λ (s : Bool). IsCounted s i all a.errors between) e counted;
-  done = done;
   is_path = is_path;
-  failed = failed;
 }

@@ -1,8 +1,6 @@
 -- The run over files, one after another
-use Rattle.std.specs.Prelude.{◌≡◌, ◌⊎◌, ◌≤◌, ℕ, nat_lt, Bool, true, false, not, ◌&&◌, ◌||◌, if◌then◌else◌, List}
+use Rattle.std.specs.Prelude.{◌≡◌, ◌⊎◌, ◌≤◌, ℕ, nat_lt, Bool, true, false, ◌&&◌, ◌||◌, if◌then◌else◌, List}
 use Rattle.std.specs.Prelude.{Option, Some, None, ◌+◌, [], ◌∷◌, string_bytes}
-use Rattle.std.specs.declared.string.String.{String}
-use Rattle.std.specs.declared.alloc.Global.{Global}
 use Rattle.outside.specs.Outside.{Rose}
 use Rattle.storage_spec.specs.Found.{most_storage}
 use Rattle.region_report.specs.Reports.{ReportHeld}
@@ -11,9 +9,12 @@ use Rattle.report_entry.specs.declared.laying.Layouts.TheVariants.{Given, Sought
 use Rattle.report_run.specs.declared.plans.Asked.{Asked}
 use Rattle.report_run.specs.declared.plans.WholeMemory.{WholeMemory}
 use Rattle.report_run.specs.declared.plans.Wanted.{Wanted}
-use Rattle.report_run.specs.declared.plans.Wanted.TheVariants.{Front, Whole}
+use Rattle.report_run.specs.declared.plans.Wanted.TheVariants.{Front, UpTo, Whole}
 use Rattle.report_run.specs.declared.failures.Failure.{Failure}
-use Rattle.report_run.specs.declared.failures.Failure.TheVariants.{Memory, Unopened}
+use Rattle.report_run.specs.declared.failures.Failure.TheVariants.{Memory, Unopened, Unwritten as NoOutput}
+use Rattle.report_run.specs.declared.running.FileEnd.{FileEnd}
+use Rattle.report_run.specs.declared.running.FileEnd.TheVariants.{Done, Failed, Unwritten}
+use Rattle.report_run.specs.declared.running.NamedFile.{NamedFile}
 use Rattle.report_run.specs.Messages.{Seen, IsMessage, IsCounted}
 use Rattle.report_run.specs.Reports.{IsReport, IsNoReport}
 use Rattle.report_run.specs.Saving.{IsSaved, IsUnsaved}
@@ -24,7 +25,7 @@ use Rattle.report_run.specs.Memories.{IsMemoryDone, IsMemoryUndone}
 abbrev pub wanted : Option WholeMemory → Layouts → Wanted
 wanted (Some whole) layouts = Whole
 wanted None (Given plan) = Front plan.mem
-wanted None (Sought known) = Front most_storage
+wanted None (Sought known) = UpTo most_storage
 
 -- `Unopened` was answered, or memory ran out
 abbrev pub IsUnopened : ℕ → ℕ → Failure → Type 0
@@ -94,44 +95,62 @@ abbrev pub IsUndone : Asked → List ℕ → Option (List ℕ) → Reads → Rea
 IsUndone asked path holds before now a b why =
     IsClosed before now a b why ⊎ IsHalfDone asked path holds before now a b why
 
--- and its message was told
+-- ---- how it ended
+
+-- standard output took no more, or all else
+abbrev pub end_of : Failure → FileEnd
+end_of NoOutput = Unwritten
+end_of other = Failed
+
+-- its message was told
 pub record IsFailed (asked : Asked) (path : List ℕ) (holds : Option (List ℕ)) (before now : Reads) (a b : State)
-    : Type 0 where
+    (end : FileEnd) : Type 0 where
   pub why : Failure
+  pub end_is : end ≡ end_of why
   pub between : Seen
   pub undone : IsUndone asked path holds before now a (record b { errors = between }) why
   pub told : IsMessage path why between b.errors
 
-abbrev pub IsPath : Bool → Asked → List ℕ → Option (List ℕ) → Reads → Reads → State → State → Type 0
-IsPath true asked path holds before now a b = IsDone asked path holds before now a b
-IsPath false asked path holds before now a b = IsFailed asked path holds before now a b
+abbrev pub IsPath : FileEnd → Asked → List ℕ → Option (List ℕ) → Reads → Reads → State → State → Type 0
+IsPath Done asked path holds before now a b = IsDone asked path holds before now a b
+IsPath end asked path holds before now a b = IsFailed asked path holds before now a b end
 
--- ---- one of several files: one that failed is remembered
+-- ---- one of several files
 
 -- whether it is told how many came before
 abbrev pub is_counted : Asked → ℕ → Bool
 is_counted asked all = asked.counts && nat_lt 1 all
 
 pub record IsStep (asked : Asked) (i all : ℕ) (path : List ℕ) (holds : Option (List ℕ)) (reads_before reads_now : Reads)
-    (a b : State) (was now : Bool) : Type 0 where
+    (a b : State) (end : FileEnd) : Type 0 where
   pub later : reads_before.unread ≤ reads_now.unread
   pub between : Seen
   pub counted : IsCounted (is_counted asked all) i all a.errors between
-  pub done : Bool
-  pub is_path : IsPath done asked path holds reads_before reads_now (record a { errors = between }) b
-  pub failed : now ≡ (was || not done)
+  pub is_path : IsPath end asked path holds reads_before reads_now (record a { errors = between }) b
+
+-- no other file is opened where there is nothing left to write to
+abbrev pub ends_run : FileEnd → Bool
+ends_run Unwritten = true
+ends_run end = false
+
+-- one that failed is remembered
+abbrev pub has_failed : FileEnd → Bool → Bool
+has_failed Done was = was
+has_failed end was = true
 
 -- the status is 0 if all was done, and standard error took every line
 abbrev pub status_of : Bool → Bool → ℕ
 status_of failed is_lost = if failed || is_lost then 1 else 0
 
--- the files at these paths, from number i on, of so many
-unfoldable pub AreSteps : Asked → (List ℕ → Wanted → Option (List ℕ)) → ℕ → ℕ → List (String Global) → Reads → State
+-- the files from number i on, of so many: each is opened by its path, and shown by its name
+unfoldable pub AreSteps : Asked → (List ℕ → Wanted → Option (List ℕ)) → ℕ → ℕ → List NamedFile → Reads → State
     → Bool → Reads → State → Bool → Type 0
 AreSteps asked content all i [] reads_before a was reads_now b now =
     (reads_now ≡ reads_before) × (b ≡ a) × (now ≡ was)
-AreSteps asked content all i (path ∷ paths) reads_before a was reads_now b now =
-    (between : Reads) × (m : State) × (failed : Bool)
-    × IsStep asked i all (string_bytes path) (content (string_bytes path) (wanted asked.memory asked.layouts))
-    reads_before between a m was failed
-    × AreSteps asked content all (i + 1) paths between m failed reads_now b now
+AreSteps asked content all i (file ∷ files) reads_before a was reads_now b now =
+    (between : Reads) × (m : State) × (end : FileEnd)
+    × IsStep asked i all (string_bytes file.name)
+    (content (string_bytes file.path) (wanted asked.memory asked.layouts)) reads_before between a m end
+    × (((ends_run end ≡ true) × (reads_now ≡ between) × (b ≡ m) × (now ≡ true))
+    ⊎ ((ends_run end ≡ false)
+    × AreSteps asked content all (i + 1) files between m (has_failed end was) reads_now b now))

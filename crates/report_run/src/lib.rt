@@ -24,5 +24,5 @@ pub use messages::Messages;
 pub use plans::{Asked, Logs, Wanted, WholeMemory, dressed, format_for};
 pub use read_only::ReadOnly;
 pub use records::Records;
-pub use running::{Images, is_counted, run, status_of};
+pub use running::{FileEnd, Images, NamedFile, is_counted, run, status_of};
 pub use storage_words::Storages;

@@ -35,8 +35,10 @@ pub struct WholeMemory {
 /// How much of a file is wanted.
 #[derive(Clone, Copy)]
 pub enum Wanted {
-    /// At most so many bytes of the image in it.
+    /// The first bytes of the image in it, so many. What follows doesn't matter.
     Front(u32),
+    /// The image in it, which has no more than so many bytes.
+    UpTo(u32),
     /// All of it, as it stands.
     Whole,
 }

@@ -1,10 +1,11 @@
 // Files, one after another.
-ghost use Rattle.std.specs.Prelude.{◌≡◌, ◌≤◌, ℕ, not, ◌||◌, List, Option, IfOk, IfErr, OnOk, MatchResult, false};
-ghost use Rattle.std.specs.Prelude.{length};
+ghost use Rattle.std.specs.Prelude.{◌≡◌, ◌≤◌, ℕ, ◌||◌, List, Option, IfOk, IfErr, OnOk, MatchResult, false};
+ghost use Rattle.std.specs.Prelude.{length, string_bytes};
 ghost use Rattle.report_run.specs.Messages.{seen};
 ghost use Rattle.report_run.specs.States.{folder, reads, state};
 ghost use Rattle.report_run.specs.Runs.{wanted, IsUnopened, IsImageDone, IsImageUndone, IsContentDone, IsContentUndone};
 ghost use Rattle.report_run.specs.Runs.{IsDone, IsUndone, IsPath, is_counted, IsStep, AreSteps, status_of};
+ghost use Rattle.report_run.specs.Runs.{end_of, ends_run, has_failed};
 
 use crate::failures::Failure;
 use crate::images::report_image;
@@ -17,7 +18,7 @@ use outside::{Load, Sink};
 use report_entry::Layouts;
 use std::alloc::Global;
 
-/// So much is read of an image that is no file and whose layout is looked for: the most that a storage has.
+/// What is no file and whose layout is looked for has no more: it is the most that a storage has.
 const MOST: u32 = 134_217_728;
 
 /// Where files are opened.
@@ -52,6 +53,31 @@ pub trait Images {
         ensures same { content self.new ≡ content self.old };
 }
 
+/// A file, and the name that its report and messages give it.
+#[derive(Debug, Drop)]
+pub struct NamedFile {
+    pub path: String,
+    pub name: String,
+}
+
+/// How a file ended.
+#[derive(Clone, Copy)]
+pub enum FileEnd {
+    Done,
+    Failed,
+    /// It failed, since standard output took no more.
+    Unwritten,
+}
+
+fn end_of(failure: &Failure) -> FileEnd
+    ensures { result ≡ end_of failure.now }
+{
+    match failure {
+        Failure::Unwritten => FileEnd::Unwritten,
+        _ => FileEnd::Failed,
+    }
+}
+
 // How much of a file is wanted.
 fn wanted(memory: Option<WholeMemory>, layouts: &Layouts) -> Wanted
     ensures { result ≡ wanted memory layouts.now }
@@ -59,7 +85,7 @@ fn wanted(memory: Option<WholeMemory>, layouts: &Layouts) -> Wanted
     match (memory, layouts) {
         (Some(_), _) => Wanted::Whole,
         (None, Layouts::Given(plan)) => Wanted::Front(plan.mem()),
-        (None, Layouts::Sought(_)) => Wanted::Front(MOST),
+        (None, Layouts::Sought(_)) => Wanted::UpTo(MOST),
     }
 }
 
@@ -121,11 +147,12 @@ fn one_content<M: Load, W: Watch, O: Sink, E: Sink, F: Records>(
     }
 }
 
-// One file, opened.
+// One file, opened by its path. All else knows it by its name.
 fn one_file<I: Images, W: Watch, O: Sink, E: Sink, F: Records>(
     alloc: Global,
     asked: &Asked,
     path: &str,
+    name: &str,
     images: &mut I,
     watch: &mut W,
     out: &mut O,
@@ -141,31 +168,32 @@ fn one_file<I: Images, W: Watch, O: Sink, E: Sink, F: Records>(
         let holds = I.content images.old path.now (wanted asked.now.memory asked.now.layouts) in
         let reads_before = reads (I.unopened images.old) (I.faults images.old) in
         let reads_now = reads (I.unopened images.new) (I.faults images.new) in
-        MatchResult result (λ _. IsDone asked.now path.now holds reads_before reads_now before after)
-        (IsUndone asked.now path.now holds reads_before reads_now before after) }
+        MatchResult result (λ _. IsDone asked.now name.now holds reads_before reads_now before after)
+        (IsUndone asked.now name.now holds reads_before reads_now before after) }
     ensures same { I.content images.new ≡ I.content images.old }
     ensures later { I.faults images.old ≤ I.faults images.new }
 {
     let mut image = images.open(path, wanted(asked.memory, &asked.layouts))?;
     let done = one_content(
-        alloc, asked, path, &mut image, watch, out, messages, records,
+        alloc, asked, name, &mut image, watch, out, messages, records,
     );
     images.close(image);
     done?;
     Ok(())
 }
 
-// One file, and the message on what went wrong with it. Answers whether all was done.
+// One file, and the message on what went wrong with it.
 fn one_path<I: Images, W: Watch, O: Sink, E: Sink, F: Records>(
     alloc: Global,
     asked: &Asked,
     path: &str,
+    name: &str,
     images: &mut I,
     watch: &mut W,
     out: &mut O,
     messages: &mut Messages<E>,
     records: &mut F,
-) -> bool
+) -> FileEnd
     ensures done { let before = state (O.given out.old) (O.faults out.old)
         (seen (E.given messages.old.errors) (E.faults messages.old.errors) messages.old.is_lost)
         (folder (F.made records.old) (F.faults records.old)) in
@@ -173,16 +201,18 @@ fn one_path<I: Images, W: Watch, O: Sink, E: Sink, F: Records>(
         (seen (E.given messages.new.errors) (E.faults messages.new.errors) messages.new.is_lost)
         (folder (F.made records.new) (F.faults records.new)) in
         let holds = I.content images.old path.now (wanted asked.now.memory asked.now.layouts) in
-        IsPath result asked.now path.now holds (reads (I.unopened images.old) (I.faults images.old))
+        IsPath result asked.now name.now holds (reads (I.unopened images.old) (I.faults images.old))
         (reads (I.unopened images.new) (I.faults images.new)) before after }
     ensures same { I.content images.new ≡ I.content images.old }
     ensures later { I.faults images.old ≤ I.faults images.new }
 {
-    match one_file(alloc, asked, path, images, watch, out, messages, records) {
-        Ok(()) => true,
+    match one_file(
+        alloc, asked, path, name, images, watch, out, messages, records,
+    ) {
+        Ok(()) => FileEnd::Done,
         Err(failure) => {
-            messages.tell_failure(path, &failure);
-            false
+            messages.tell_failure(name, &failure);
+            end_of(&failure)
         }
     }
 }
@@ -194,41 +224,54 @@ pub fn is_counted(asked: &Asked, all: usize) -> bool
     asked.counts && all > 1
 }
 
-fn has_failed(failed: bool, done: bool) -> bool
-    ensures { result ≡ (failed || not done) }
+// Whether no other file is opened: there is nothing left to write to.
+fn ends_run(end: FileEnd) -> bool
+    ensures { result ≡ ends_run end }
 {
-    failed || !done
+    match end {
+        FileEnd::Unwritten => true,
+        _ => false,
+    }
+}
+
+fn has_failed(end: FileEnd, failed: bool) -> bool
+    ensures { result ≡ has_failed end failed }
+{
+    match end {
+        FileEnd::Done => failed,
+        _ => true,
+    }
 }
 
 // One file of `all`, of which `i` came before: its report, its records saved, if that is asked for, and the message
-// on what went wrong. `failed` says whether one failed before; the answer, whether one did so far.
-fn report_path<I: Images, W: Watch, O: Sink, E: Sink, F: Records>(
+// on what went wrong.
+fn report_file<I: Images, W: Watch, O: Sink, E: Sink, F: Records>(
     alloc: Global,
     asked: &Asked,
     i: usize,
     all: usize,
-    path: &str,
+    file: &NamedFile,
     images: &mut I,
     watch: &mut W,
     out: &mut O,
     messages: &mut Messages<E>,
     records: &mut F,
-    failed: bool,
-) -> bool
+) -> FileEnd
     ensures step { let before = state (O.given out.old) (O.faults out.old)
         (seen (E.given messages.old.errors) (E.faults messages.old.errors) messages.old.is_lost)
         (folder (F.made records.old) (F.faults records.old)) in
         let after = state (O.given out.new) (O.faults out.new)
         (seen (E.given messages.new.errors) (E.faults messages.new.errors) messages.new.is_lost)
         (folder (F.made records.new) (F.faults records.new)) in
-        let holds = I.content images.old path.now (wanted asked.now.memory asked.now.layouts) in
-        IsStep asked.now i all path.now holds (reads (I.unopened images.old) (I.faults images.old))
-        (reads (I.unopened images.new) (I.faults images.new)) before after failed result }
+        let holds = I.content images.old (string_bytes file.path) (wanted asked.now.memory asked.now.layouts) in
+        IsStep asked.now i all (string_bytes file.name) holds (reads (I.unopened images.old) (I.faults images.old))
+        (reads (I.unopened images.new) (I.faults images.new)) before after result }
     ensures same { I.content images.new ≡ I.content images.old }
 {
     messages.tell_count(is_counted(asked, all), i, all);
-    let done = one_path(alloc, asked, path, images, watch, out, messages, records);
-    has_failed(failed, done)
+    one_path(
+        alloc, asked, &file.path, &file.name, images, watch, out, messages, records,
+    )
 }
 
 /// The exit status: 0 if all images were done, and 1 if one failed, or something of a line on standard error was lost.
@@ -238,12 +281,13 @@ pub fn status_of(failed: bool, is_lost: bool) -> u8
     if failed || is_lost { 1 } else { 0 }
 }
 
-/// Reports the files at these paths, images or whole memories, one after another, and saves their records, if that is
-/// asked for. One that fails is told on standard error, and ends nothing. Answers whether some image failed.
+/// Reports these files, images or whole memories, one after another, and saves their records, if that is asked for. One
+/// that fails is told on standard error, and ends nothing, unless standard output takes no more: then no other file is
+/// opened. Answers whether some file failed.
 pub fn run<I: Images, W: Watch, O: Sink, E: Sink, F: Records>(
     alloc: Global,
     asked: &Asked,
-    paths: &[String],
+    files: &[NamedFile],
     images: &mut I,
     watch: &mut W,
     out: &mut O,
@@ -256,25 +300,28 @@ pub fn run<I: Images, W: Watch, O: Sink, E: Sink, F: Records>(
         let after = state (O.given out.new) (O.faults out.new)
         (seen (E.given messages.new.errors) (E.faults messages.new.errors) messages.new.is_lost)
         (folder (F.made records.new) (F.faults records.new)) in
-        AreSteps asked.now (I.content images.old) (length paths.now) 0 paths.now
+        AreSteps asked.now (I.content images.old) (length files.now) 0 files.now
         (reads (I.unopened images.old) (I.faults images.old)) before false
         (reads (I.unopened images.new) (I.faults images.new)) after result }
 {
     let mut failed = false;
-    for i in 0..paths.len() {
-        failed = report_path(
+    for i in 0..files.len() {
+        let end = report_file(
             alloc,
             asked,
             i,
-            paths.len(),
-            &paths[i],
+            files.len(),
+            &files[i],
             images,
             watch,
             out,
             messages,
             records,
-            failed,
         );
+        if ends_run(end) {
+            return true;
+        }
+        failed = has_failed(end, failed);
     }
     failed
 }

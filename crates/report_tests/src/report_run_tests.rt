@@ -144,20 +144,32 @@ fn run_within(
         is_missing: false,
         unopened: 0,
     };
-    run_over(alloc, asked, path, held, false, room)
+    run_over(alloc, asked, &one_file(alloc, path)?, held, false, room)
 }
 
-// Of one file, with a folder for its records that may be full.
+fn named(alloc: Global, path: &str, name: &str) -> Result<NamedFile, Fail> {
+    Ok(NamedFile {
+        path: String::from_str(alloc, path)?,
+        name: String::from_str(alloc, name)?,
+    })
+}
+
+// A file that is shown by its path.
+fn one_file(alloc: Global, path: &str) -> Result<Vec<NamedFile>, Fail> {
+    let mut files = Vec::new(alloc);
+    files.push(named(alloc, path, path)?)?;
+    Ok(files)
+}
+
+// Of files that hold the same, with a folder for their records that may be full.
 fn run_over(
     alloc: Global,
     asked: &Asked,
-    path: &str,
+    files: &[NamedFile],
     mut held: Held,
     is_full: bool,
     room: u32,
 ) -> Result<Done, Fail> {
-    let mut paths = Vec::new(alloc);
-    paths.push(String::from_str(alloc, path)?)?;
     let mut out = sink(alloc, room)?;
     let mut messages = Messages::new(sink(alloc, 65_536)?);
     let mut taken = Taken {
@@ -168,7 +180,7 @@ fn run_over(
     let has_failed = run(
         alloc,
         asked,
-        &paths,
+        files,
         &mut held,
         &mut Unwatched,
         &mut out,
@@ -191,7 +203,14 @@ fn run_refused(alloc: Global, is_missing: bool, is_full: bool) -> Result<Done, F
         unopened: 0,
     };
     let asked = asked(known(&[]), Format::Brief, Logs::Texts, None, true);
-    run_over(alloc, &asked, "file", held, is_full, 65_536)
+    run_over(
+        alloc,
+        &asked,
+        &one_file(alloc, "file")?,
+        held,
+        is_full,
+        65_536,
+    )
 }
 
 fn run_on(alloc: Global, asked: &Asked, bytes: Vec<u8>) -> Result<Done, Fail> {
@@ -349,6 +368,33 @@ fn records_that_are_not_saved(rt: HostRuntime) -> Result<(), Fail> {
         assert!(rt; done.out.as_slice() == line && done.errors.as_slice() == errors);
         assert!(rt; done.has_failed == is_full);
     }
+    Ok(())
+}
+
+// A log as two files, the first of which has a name of its own, where standard output has room for so many bytes.
+fn run_twice(alloc: Global, room: u32) -> Result<Done, Fail> {
+    let held = Held {
+        alloc,
+        bytes: Bytes::from_vec(Vec::from_slice(alloc, b"Kernel panic - not syncing: one\n")?),
+        is_missing: false,
+        unopened: 0,
+    };
+    let mut files = Vec::new(alloc);
+    files.push(named(alloc, "a\nb", "a?b")?)?;
+    files.push(named(alloc, "second", "second")?)?;
+    let asked = asked(known(&[]), Format::Brief, Logs::Texts, None, false);
+    run_over(alloc, &asked, &files, held, false, room)
+}
+
+// Each is shown by its name. Where standard output takes no more, no other file is opened.
+#[test]
+fn two_files(rt: HostRuntime) -> Result<(), Fail> {
+    let all = run_twice(rt.alloc(), 65_536)?;
+    let lines = b"a?b  -  kernel panic: one\nsecond  -  kernel panic: one\n".as_slice();
+    assert!(rt; all.out.as_slice() == lines && all.errors.is_empty() && !all.has_failed);
+    let full = run_twice(rt.alloc(), 20)?;
+    let error = b"oopsreport: a?b: standard output could not be written\n".as_slice();
+    assert!(rt; full.errors.as_slice() == error && full.has_failed);
     Ok(())
 }
 
