@@ -23,7 +23,7 @@ use memory::Progress;
 use names::named;
 use outside::{Sink, WriterSink};
 use report_colours::ColourSink;
-use report_run::{Messages, NamedFile, format_for, is_counted, status_of};
+use report_run::{FileEnd, Messages, NamedFile, format_for, is_counted, status_of};
 use report_tool::Format;
 use std::alloc::{AllocError, Global};
 use std::io::{IsTerminal, Read};
@@ -51,11 +51,15 @@ fn all_shown<R: Runtime, S: Read, O: Sink, E: Sink>(
 ) -> Result<u8> {
     let all = files.len();
     let mut watch = Progress::new(rt.clone()?, is_watched);
-    let failed = report_run::run(
+    let end = report_run::run(
         alloc, asked, files, images, &mut watch, out, messages, records,
     );
-    messages.tell_end(is_counted(asked, all), all);
-    Ok(status_of(failed, messages.is_lost))
+    let is_told = match end {
+        FileEnd::Unwritten => false,
+        _ => is_counted(asked, all),
+    };
+    messages.tell_end(is_told, all);
+    Ok(status_of(end, messages.is_lost))
 }
 
 // Does what is asked of the files.

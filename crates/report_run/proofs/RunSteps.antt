@@ -5,21 +5,22 @@ use Rattle.std.proofs.lemmas.List.{drop_all}
 use Rattle.report_run.specs.declared.plans.Asked.{Asked}
 use Rattle.report_run.specs.declared.plans.Wanted.{Wanted}
 use Rattle.report_run.specs.declared.running.FileEnd.{FileEnd}
+use Rattle.report_run.specs.declared.running.FileEnd.TheVariants.{Done}
 use Rattle.report_run.specs.declared.running.NamedFile.{NamedFile}
 use Rattle.report_run.specs.States.{State, Reads}
-use Rattle.report_run.specs.Runs.{wanted, IsStep, AreSteps, ends_run, has_failed}
+use Rattle.report_run.specs.Runs.{wanted, IsStep, AreSteps, ends_run, with_end}
 
 module _ (asked : Asked) (content : List ℕ → Wanted → Option (List ℕ)) (files : List NamedFile) (first : Reads)
     (start : State) where
   -- what the files from a place on do, those before have led to
-  abbrev pub Continues : ℕ → Reads → State → Bool → Type 0
-  Continues i r s failed =
-      (last : Reads) (after : State) (now : Bool)
-      → AreSteps asked content (length files) i (drop i files) r s failed last after now
-      → AreSteps asked content (length files) 0 files first start false last after now
+  abbrev pub Continues : ℕ → Reads → State → FileEnd → Type 0
+  Continues i r s was =
+      (last : Reads) (after : State) (ended : FileEnd)
+      → AreSteps asked content (length files) i (drop i files) r s was last after ended
+      → AreSteps asked content (length files) 0 files first start Done last after ended
 
-  pub none_run : Continues 0 first start false
-  none_run = λ last after now steps. steps
+  pub none_run : Continues 0 first start Done
+  none_run = λ last after ended steps. steps
 
   -- file i, as the loop has it
   abbrev pub IsFile : ℕ → NamedFile → (List ℕ → Wanted → Option (List ℕ)) → Reads → Reads → State → State → FileEnd
@@ -29,13 +30,13 @@ module _ (asked : Asked) (content : List ℕ → Wanted → Option (List ℕ)) (
       (held (string_bytes file.path) (wanted asked.memory asked.layouts)) r q s m end
 
   -- the files from i on begin with it
-  from : (i : ℕ) (file : NamedFile) (r : Reads) (s : State) (was : Bool) → i < length files → file ≡ get_or files i file
-      → Continues i r s was → (last : Reads) (after : State) (now : Bool)
-      → AreSteps asked content (length files) i (file ∷ drop (i + 1) files) r s was last after now
-      → AreSteps asked content (length files) 0 files first start false last after now
-  from i file r s was inside is_file so_far last after now steps =
-      so_far last after now
-      (subst (λ (fs : List NamedFile). AreSteps asked content (length files) i fs r s was last after now)
+  from : (i : ℕ) (file : NamedFile) (r : Reads) (s : State) (was : FileEnd) → i < length files → file ≡ get_or files i file
+      → Continues i r s was → (last : Reads) (after : State) (ended : FileEnd)
+      → AreSteps asked content (length files) i (file ∷ drop (i + 1) files) r s was last after ended
+      → AreSteps asked content (length files) 0 files first start Done last after ended
+  from i file r s was inside is_file so_far last after ended steps =
+      so_far last after ended
+      (subst (λ (fs : List NamedFile). AreSteps asked content (length files) i fs r s was last after ended)
       (sym (drop-cons files i file inside ∙ ap (λ f. f ∷ drop (suc i) files) (sym is_file)
       ∙ ap (λ k. file ∷ drop k files) (sym (add-one i)))) steps)
 
@@ -45,31 +46,31 @@ module _ (asked : Asked) (content : List ℕ → Wanted → Option (List ℕ)) (
       subst (λ (f : List ℕ → Wanted → Option (List ℕ)). IsFile i file f r q s m end) same step
 
   pub one_run : (i : ℕ) (file : NamedFile) (held : List ℕ → Wanted → Option (List ℕ)) (r q : Reads) (s m : State)
-      (was : Bool) (end : FileEnd) → i < length files → file ≡ get_or files i file → held ≡ content
+      (was : FileEnd) (end : FileEnd) → i < length files → file ≡ get_or files i file → held ≡ content
       → IsFile i file held r q s m end → ends_run end ≡ false → Continues i r s was
-      → Continues (i + 1) q m (has_failed end was)
+      → Continues (i + 1) q m (with_end was end)
   unfolding AreSteps
   one_run i file held r q s m was end inside is_file same step goes so_far =
-      λ last after now steps. from i file r s was inside is_file so_far last after now
+      λ last after ended steps. from i file r s was inside is_file so_far last after ended
       (q, m, end, known i file held r q s m end same step, inr (goes, steps))
 
   -- the file that ended the run
   pub cut_run : (i : ℕ) (file : NamedFile) (held : List ℕ → Wanted → Option (List ℕ)) (r q : Reads) (s m : State)
-      (was : Bool) (end : FileEnd) → i < length files → file ≡ get_or files i file → held ≡ content
+      (was : FileEnd) (end : FileEnd) → i < length files → file ≡ get_or files i file → held ≡ content
       → IsFile i file held r q s m end → ends_run end ≡ true → Continues i r s was
-      → AreSteps asked content (length files) 0 files first start false q m true
+      → AreSteps asked content (length files) 0 files first start Done q m end
   unfolding AreSteps
   cut_run i file held r q s m was end inside is_file same step ends so_far =
-      from i file r s was inside is_file so_far q m true
+      from i file r s was inside is_file so_far q m end
       (q, m, end, known i file held r q s m end same step, inl (ends, refl, refl, refl))
 
-  pub all_run : (i : ℕ) (r : Reads) (s : State) (failed : Bool) → length files ≤ i → Continues i r s failed
-      → AreSteps asked content (length files) 0 files first start false r s failed
+  pub all_run : (i : ℕ) (r : Reads) (s : State) (was : FileEnd) → length files ≤ i → Continues i r s was
+      → AreSteps asked content (length files) 0 files first start Done r s was
   unfolding AreSteps
-  all_run i r s failed behind so_far =
-      so_far r s failed (subst (λ (fs : List NamedFile). AreSteps asked content (length files) i fs r s failed r s
-      failed)
+  all_run i r s was behind so_far =
+      so_far r s was (subst (λ (fs : List NamedFile). AreSteps asked content (length files) i fs r s was r s
+      was)
       (sym (drop_all i files behind)) stays)
     where
-      stays : AreSteps asked content (length files) i [] r s failed r s failed
+      stays : AreSteps asked content (length files) i [] r s was r s was
       stays = (refl, refl, refl)

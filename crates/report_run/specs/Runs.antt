@@ -1,5 +1,5 @@
 -- The run over files, one after another
-use Rattle.std.specs.Prelude.{◌≡◌, ◌⊎◌, ◌≤◌, ℕ, nat_lt, Bool, true, false, ◌&&◌, ◌||◌, if◌then◌else◌, List}
+use Rattle.std.specs.Prelude.{◌≡◌, ◌⊎◌, ◌≤◌, ℕ, nat_lt, Bool, true, false, ◌&&◌, List}
 use Rattle.std.specs.Prelude.{Option, Some, None, ◌+◌, [], ◌∷◌, string_bytes}
 use Rattle.outside.specs.Outside.{Rose}
 use Rattle.storage_spec.specs.Found.{most_storage}
@@ -134,23 +134,24 @@ ends_run Unwritten = true
 ends_run end = false
 
 -- one that failed is remembered
-abbrev pub has_failed : FileEnd → Bool → Bool
-has_failed Done was = was
-has_failed end was = true
+abbrev pub with_end : FileEnd → FileEnd → FileEnd
+with_end so_far Done = so_far
+with_end so_far end = end
 
 -- the status is 0 if all was done, and standard error took every line
-abbrev pub status_of : Bool → Bool → ℕ
-status_of failed is_lost = if failed || is_lost then 1 else 0
+abbrev pub status_of : FileEnd → Bool → ℕ
+status_of Done false = 0
+status_of end is_lost = 1
 
 -- the files from number i on, of so many: each is opened by its path, and shown by its name
 unfoldable pub AreSteps : Asked → (List ℕ → Wanted → Option (List ℕ)) → ℕ → ℕ → List NamedFile → Reads → State
-    → Bool → Reads → State → Bool → Type 0
-AreSteps asked content all i [] reads_before a was reads_now b now =
-    (reads_now ≡ reads_before) × (b ≡ a) × (now ≡ was)
-AreSteps asked content all i (file ∷ files) reads_before a was reads_now b now =
+    → FileEnd → Reads → State → FileEnd → Type 0
+AreSteps asked content all i [] reads_before a so_far reads_now b ended =
+    (reads_now ≡ reads_before) × (b ≡ a) × (ended ≡ so_far)
+AreSteps asked content all i (file ∷ files) reads_before a so_far reads_now b ended =
     (between : Reads) × (m : State) × (end : FileEnd)
     × IsStep asked i all (string_bytes file.name)
     (content (string_bytes file.path) (wanted asked.memory asked.layouts)) reads_before between a m end
-    × (((ends_run end ≡ true) × (reads_now ≡ between) × (b ≡ m) × (now ≡ true))
+    × (((ends_run end ≡ true) × (reads_now ≡ between) × (b ≡ m) × (ended ≡ end))
     ⊎ ((ends_run end ≡ false)
-    × AreSteps asked content all (i + 1) files between m (has_failed end was) reads_now b now))
+    × AreSteps asked content all (i + 1) files between m (with_end so_far end) reads_now b ended))

@@ -1,11 +1,12 @@
 // Files, one after another.
-ghost use Rattle.std.specs.Prelude.{◌≡◌, ◌≤◌, ℕ, ◌||◌, List, Option, IfOk, IfErr, OnOk, MatchResult, false};
+ghost use Rattle.std.specs.Prelude.{◌≡◌, ◌≤◌, ℕ, List, Option, IfOk, IfErr, OnOk, MatchResult};
 ghost use Rattle.std.specs.Prelude.{length, string_bytes};
 ghost use Rattle.report_run.specs.Messages.{seen};
 ghost use Rattle.report_run.specs.States.{folder, reads, state};
 ghost use Rattle.report_run.specs.Runs.{wanted, IsUnopened, IsImageDone, IsImageUndone, IsContentDone, IsContentUndone};
+ghost use Rattle.report_run.specs.declared.running.FileEnd.TheVariants.{Done};
 ghost use Rattle.report_run.specs.Runs.{IsDone, IsUndone, IsPath, is_counted, IsStep, AreSteps, status_of};
-ghost use Rattle.report_run.specs.Runs.{end_of, ends_run, has_failed};
+ghost use Rattle.report_run.specs.Runs.{end_of, ends_run, with_end};
 
 use crate::failures::Failure;
 use crate::images::report_image;
@@ -60,7 +61,7 @@ pub struct NamedFile {
     pub name: String,
 }
 
-/// How a file ended.
+/// How a file ended, or several: `Failed` if one of them did.
 #[derive(Clone, Copy)]
 pub enum FileEnd {
     Done,
@@ -234,12 +235,13 @@ fn ends_run(end: FileEnd) -> bool
     }
 }
 
-fn has_failed(end: FileEnd, failed: bool) -> bool
-    ensures { result ≡ has_failed end failed }
+// How the files ended, with one more.
+fn with_end(so_far: FileEnd, end: FileEnd) -> FileEnd
+    ensures { result ≡ with_end so_far end }
 {
     match end {
-        FileEnd::Done => failed,
-        _ => true,
+        FileEnd::Done => so_far,
+        _ => end,
     }
 }
 
@@ -263,8 +265,8 @@ fn report_file<I: Images, W: Watch, O: Sink, E: Sink, F: Records>(
         let after = state (O.given out.new) (O.faults out.new)
         (seen (E.given messages.new.errors) (E.faults messages.new.errors) messages.new.is_lost)
         (folder (F.made records.new) (F.faults records.new)) in
-        let holds = I.content images.old (string_bytes file.path) (wanted asked.now.memory asked.now.layouts) in
-        IsStep asked.now i all (string_bytes file.name) holds (reads (I.unopened images.old) (I.faults images.old))
+        let holds = I.content images.old (string_bytes file.now.path) (wanted asked.now.memory asked.now.layouts) in
+        IsStep asked.now i all (string_bytes file.now.name) holds (reads (I.unopened images.old) (I.faults images.old))
         (reads (I.unopened images.new) (I.faults images.new)) before after result }
     ensures same { I.content images.new ≡ I.content images.old }
 {
@@ -275,15 +277,18 @@ fn report_file<I: Images, W: Watch, O: Sink, E: Sink, F: Records>(
 }
 
 /// The exit status: 0 if all images were done, and 1 if one failed, or something of a line on standard error was lost.
-pub fn status_of(failed: bool, is_lost: bool) -> u8
-    ensures { result ≡ status_of failed is_lost }
+pub fn status_of(end: FileEnd, is_lost: bool) -> u8
+    ensures { result ≡ status_of end is_lost }
 {
-    if failed || is_lost { 1 } else { 0 }
+    match (end, is_lost) {
+        (FileEnd::Done, false) => 0,
+        _ => 1,
+    }
 }
 
 /// Reports these files, images or whole memories, one after another, and saves their records, if that is asked for. One
 /// that fails is told on standard error, and ends nothing, unless standard output takes no more: then no other file is
-/// opened. Answers whether some file failed.
+/// opened. Answers how they ended.
 pub fn run<I: Images, W: Watch, O: Sink, E: Sink, F: Records>(
     alloc: Global,
     asked: &Asked,
@@ -293,7 +298,7 @@ pub fn run<I: Images, W: Watch, O: Sink, E: Sink, F: Records>(
     out: &mut O,
     messages: &mut Messages<E>,
     records: &mut F,
-) -> bool
+) -> FileEnd
     ensures { let before = state (O.given out.old) (O.faults out.old)
         (seen (E.given messages.old.errors) (E.faults messages.old.errors) messages.old.is_lost)
         (folder (F.made records.old) (F.faults records.old)) in
@@ -301,10 +306,10 @@ pub fn run<I: Images, W: Watch, O: Sink, E: Sink, F: Records>(
         (seen (E.given messages.new.errors) (E.faults messages.new.errors) messages.new.is_lost)
         (folder (F.made records.new) (F.faults records.new)) in
         AreSteps asked.now (I.content images.old) (length files.now) 0 files.now
-        (reads (I.unopened images.old) (I.faults images.old)) before false
+        (reads (I.unopened images.old) (I.faults images.old)) before Done
         (reads (I.unopened images.new) (I.faults images.new)) after result }
 {
-    let mut failed = false;
+    let mut so_far = FileEnd::Done;
     for i in 0..files.len() {
         let end = report_file(
             alloc,
@@ -319,9 +324,9 @@ pub fn run<I: Images, W: Watch, O: Sink, E: Sink, F: Records>(
             records,
         );
         if ends_run(end) {
-            return true;
+            return end;
         }
-        failed = has_failed(end, failed);
+        so_far = with_end(so_far, end);
     }
-    failed
+    so_far
 }

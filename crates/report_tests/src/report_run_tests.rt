@@ -177,7 +177,7 @@ fn run_over(
         is_full,
         faults: 0,
     };
-    let has_failed = run(
+    let end = run(
         alloc,
         asked,
         files,
@@ -190,7 +190,7 @@ fn run_over(
     Ok(Done {
         out: Vec::from_slice(alloc, out.bytes())?,
         errors: Vec::from_slice(alloc, messages.errors.bytes())?,
-        has_failed,
+        has_failed: status_of(end, false) == 1,
     })
 }
 

@@ -16,5 +16,5 @@ invariant-loop-i g l =
     (state (g.O.Sink.given l.out) (g.O.Sink.faults l.out)
     (seen (g.E.Sink.given l.messages.errors) (g.E.Sink.faults l.messages.errors) l.messages.is_lost)
     (folder (g.F.Records.made l.records) (g.F.Records.faults l.records)))
-    l.failed
+    l.so_far
     × (g.I.Images.content l.images ≡ g.I.Images.content l.initial.images)
